@@ -1,0 +1,9 @@
+use mathlib.Core.Path.{ap}
+use Rattle.std.proofs.shelf.Equals.{matches-decides}
+use Rattle.wire.specs.declared.name.Symbol.{Symbol}
+use Rattle.wire.proofs.name.SymbolPartialEq.eq.Needs as need
+
+pub returns : need.returns
+returns c =
+    let d = matches-decides _ _ _ (c .eq .ensures) in
+    ((λ t. ap (λ bs. record { bytes = bs }) (d .0 t)), (λ e. d .1 (ap (λ (x : Symbol). x .bytes) e)))

@@ -1,0 +1,26 @@
+// Unsigned big-endian integers at an offset.
+ghost use mathlib.Core.Path.{_≡_};
+ghost use Prim.Native.Nat.{ℕ, _+_, _≤_};
+ghost use lib.ListN.{length};
+ghost use Rattle.wire.specs.Numbers.{be16 as bigEndian16, be32 as bigEndian32, be64 as bigEndian64};
+
+pub fn be16(bytes: &[u8], at: usize) -> u16
+    requires { ⌜ at + 2 ≤ length (now bytes) ⌝ }
+    ensures { λ r. ⌜ r ≡ bigEndian16 (now (bytes .entry)) at ⌝ }
+{
+    u16::from_be_bytes([bytes[at], bytes[at + 1]])
+}
+
+pub fn be32(bytes: &[u8], at: usize) -> u32
+    requires { ⌜ at + 4 ≤ length (now bytes) ⌝ }
+    ensures { λ r. ⌜ r ≡ bigEndian32 (now (bytes .entry)) at ⌝ }
+{
+    u32::from_be_bytes([bytes[at], bytes[at + 1], bytes[at + 2], bytes[at + 3]])
+}
+
+pub fn be64(bytes: &[u8], at: usize) -> u64
+    requires { ⌜ at + 8 ≤ length (now bytes) ⌝ }
+    ensures { λ r. ⌜ r ≡ bigEndian64 (now (bytes .entry)) at ⌝ }
+{
+    u64::from(be32(bytes, at)) * 0x1_0000_0000 + u64::from(be32(bytes, at + 4))
+}

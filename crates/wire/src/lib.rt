@@ -1,0 +1,30 @@
+// The venue's bytes: integers, symbols and session names, messages, packets, session messages and
+// number fields, and the enums that answers are made of.
+mod bytes;
+mod cause;
+mod code;
+mod lamp;
+mod message;
+mod name;
+mod order;
+mod packet;
+mod refusal;
+pub use cause::Cause;
+pub use code::EventCode;
+pub use code::ShortSell;
+pub use code::Side;
+pub use code::Status;
+pub use code::Trading;
+pub use lamp::Lamp;
+pub use message::Entry;
+pub use message::Message;
+pub use name::Session;
+pub use name::Symbol;
+pub use order::Order;
+pub use order::OrderRow;
+pub use packet::Messages;
+pub use packet::MessagesIterator;
+pub use packet::Numbered;
+pub use packet::Packet;
+pub use refusal::Refusal;
+pub use refusal::RefusalNumber;
