@@ -12,7 +12,7 @@ use Rattle.std.specs.Options.{mapped, isSome}
 use Rattle.std.specs.declared.option.Option.{Option}
 use Rattle.std.specs.declared.option.Option.the-variants.{Some, None}
 use Rattle.wire.specs.Numbers.{most32}
-use Rattle.wire.specs.Packets.{front-length, unpacked, walked}
+use Rattle.wire.specs.Packets.{message-length, unpacked, walked}
 
 -- what follows from the length in front
 abbrev unpack : ℕ → List ℕ → Option ℕ → Option (List (List ℕ))
@@ -23,11 +23,11 @@ abbrev walk : ℕ → ℕ → List ℕ → Option ℕ → List (List ℕ)
 walk n number bytes None = []
 walk n number bytes (Some k) = take k (drop 2 bytes) ∷ walked n (number + 1) (drop (2 + k) bytes)
 
-pub unpacked-step : (n m : ℕ) (bytes : List ℕ) (o : Option ℕ) → o ≡ front-length bytes → n ≡ suc m → unpacked n bytes ≡ unpack m bytes o
+pub unpacked-step : (n m : ℕ) (bytes : List ℕ) (o : Option ℕ) → o ≡ message-length bytes → n ≡ suc m → unpacked n bytes ≡ unpack m bytes o
 unfolding unpacked
 unpacked-step n m bytes o e s = ap (λ k. unpacked k bytes) s ∙ ap (unpack m bytes) (sym e)
 
-pub walked-step : (n m number : ℕ) (bytes : List ℕ) (o : Option ℕ) → o ≡ front-length bytes → n ≡ suc m → number ≤ most32 → walked n number bytes ≡ walk m number bytes o
+pub walked-step : (n m number : ℕ) (bytes : List ℕ) (o : Option ℕ) → o ≡ message-length bytes → n ≡ suc m → number ≤ most32 → walked n number bytes ≡ walk m number bytes o
 unfolding walked
 walked-step n m number bytes o e s h =
     ap (λ k. walked k number bytes) s ∙ cond-false _ _ _ (le-ltb most32 number h) ∙ ap (walk m number bytes) (sym e)
@@ -69,5 +69,5 @@ module _ where
   unfolding unpacked walked
   all-walked zero number bytes h e = cond-true _ _ _ (sym (none-left zero bytes refl) ∙ e)
   all-walked (suc n) number bytes h e =
-      all-from n number bytes (front-length bytes) (λ k. all-walked n (number + 1) (drop (2 + k) bytes) (omega arith)) e
+      all-from n number bytes (message-length bytes) (λ k. all-walked n (number + 1) (drop (2 + k) bytes) (omega arith)) e
       ∙ ap Some (sym (cond-false _ _ _ (le-ltb most32 number (omega arith))))

@@ -3,4 +3,7 @@ pub mod Codes
 pub mod Names
 pub mod Limits
 pub mod Messages
+pub mod Frames
 pub mod Packets
+pub mod Fields
+pub mod Sessions

@@ -18,6 +18,7 @@ use Rattle.wire.specs.declared.packet.Packet.the-variants as packet
 use Rattle.wire.specs.declared.packet.Messages.{Messages}
 use Rattle.wire.specs.declared.packet.Numbered.{Numbered}
 use Rattle.wire.specs.Numbers.{most16, most32, be16, be32}
+use Rattle.wire.specs.Frames.{front-length}
 use Rattle.wire.specs.Names.{session-of}
 
 -- a heartbeat tells the number of the next message and the session;
@@ -30,16 +31,15 @@ pub data Sent : Type 0 where
 abbrev pub well-numbered : ℕ → ℕ → Bool
 well-numbered number count = leb 1 number && leb count most16 && leb (number + (count - 1)) most32
 
--- the length in front of a message, where it is 5 to 80 and that many bytes follow
-abbrev pub front-length : List ℕ → Option ℕ
-front-length bytes =
-    cond (leb 5 (be16 bytes 0) && leb (be16 bytes 0) 80 && leb (2 + be16 bytes 0) (length bytes)) (Some (be16 bytes 0)) None
+-- a message of a packet has 5 to 80 bytes behind its length
+abbrev pub message-length : List ℕ → Option ℕ
+message-length = front-length 5 80
 
 -- so many messages, each behind its length, and no byte left over
 unfoldable pub unpacked : ℕ → List ℕ → Option (List (List ℕ))
 unpacked zero bytes = cond (eqb (length bytes) 0) (Some []) None
 unpacked (suc n) bytes =
-    elim (front-length bytes) [ None ↦ None | Some k ↦ mapped (λ ms. take k (drop 2 bytes) ∷ ms) (unpacked n (drop (2 + k) bytes)) ]
+    elim (message-length bytes) [ None ↦ None | Some k ↦ mapped (λ ms. take k (drop 2 bytes) ∷ ms) (unpacked n (drop (2 + k) bytes)) ]
 
 abbrev pub laid-out : {X : Type 0} → (X → Sent) → Option X → Result Sent Refusal
 laid-out say None = Err PacketLayout
@@ -61,7 +61,7 @@ unfoldable pub walked : ℕ → ℕ → List ℕ → List (List ℕ)
 walked zero number bytes = []
 walked (suc n) number bytes =
     cond (ltb most32 number) []
-    (elim (front-length bytes) [ None ↦ [] | Some k ↦ take k (drop 2 bytes) ∷ walked n (number + 1) (drop (2 + k) bytes) ])
+    (elim (message-length bytes) [ None ↦ [] | Some k ↦ take k (drop 2 bytes) ∷ walked n (number + 1) (drop (2 + k) bytes) ])
 
 abbrev pub left-in : Messages → List (List ℕ)
 left-in m = walked (m .left) (m .number) (m .bytes .now)

@@ -1,7 +1,8 @@
-// Unsigned big-endian integers at an offset.
+// Unsigned big-endian integers at an offset, and the length in front of a message.
 ghost use mathlib.Core.Path.{_≡_};
 ghost use Prim.Native.Nat.{ℕ, _+_, _≤_};
 ghost use lib.ListN.{length};
+ghost use Rattle.wire.specs.Frames.{front-length};
 ghost use Rattle.wire.specs.Numbers.{be16 as bigEndian16, be32 as bigEndian32, be64 as bigEndian64};
 
 pub fn be16(bytes: &[u8], at: usize) -> u16
@@ -23,4 +24,18 @@ pub fn be64(bytes: &[u8], at: usize) -> u64
     ensures { λ r. ⌜ r ≡ bigEndian64 (now (bytes .entry)) at ⌝ }
 {
     u64::from(be32(bytes, at)) * 0x1_0000_0000 + u64::from(be32(bytes, at + 4))
+}
+
+// The length in front of the bytes, where it lies within its limits and that many bytes follow it.
+pub fn front_length(bytes: &[u8], least: usize, most: usize) -> Option<usize>
+    ensures { λ r. ⌜ r ≡ front-length least most (now (bytes .entry)) ⌝ }
+{
+    if bytes.len() < 2 {
+        return None;
+    }
+    let length = usize::from(be16(bytes, 0));
+    if length < least || length > most || length > bytes.len() - 2 {
+        return None;
+    }
+    Some(length)
 }

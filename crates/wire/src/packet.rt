@@ -3,10 +3,11 @@ ghost use mathlib.Core.Path.{_≡_};
 ghost use Rattle.std.specs.Options.{isSome};
 ghost use mathlib.Core.Bool.{true};
 ghost use Rattle.wire.specs.Names.{session-of};
-ghost use Rattle.wire.specs.Packets.{packet-of, sending, well-numbered, laid-out, front-length, unpacked, Walked};
+ghost use Rattle.wire.specs.Packets.{packet-of, sending, well-numbered, laid-out, unpacked, Walked};
 ghost use Rattle.wire.specs.Packets as Sent;
 use crate::bytes::be16;
 use crate::bytes::be32;
+use crate::bytes::front_length;
 use crate::name::Session;
 use crate::refusal::Refusal;
 
@@ -79,27 +80,13 @@ fn data(number: u32, count: u16, rest: &[u8]) -> Result<Packet<'_>, Refusal>
     Ok(Packet::Data(Messages { bytes: rest, number, left: count }))
 }
 
-// The length of the message that begins the bytes, where it is whole and of 5 to 80 bytes.
-fn front_length(bytes: &[u8]) -> Option<usize>
-    ensures { λ r. ⌜ r ≡ front-length (now (bytes .entry)) ⌝ }
-{
-    if bytes.len() < 2 {
-        return None;
-    }
-    let length = usize::from(be16(bytes, 0));
-    if length < 5 || length > 80 || length > bytes.len() - 2 {
-        return None;
-    }
-    Some(length)
-}
-
 // Whether so many messages fill the bytes.
 fn filled(bytes: &[u8], count: u16) -> bool
     ensures { λ r. ⌜ r ≡ isSome (unpacked count (now (bytes .entry))) ⌝ }
 {
     let mut rest = bytes;
     for i in 0..count {
-        let Some(length) = front_length(rest) else {
+        let Some(length) = front_length(rest, 5, 80) else {
             return false;
         };
         rest = &rest[2 + length..];
@@ -122,7 +109,7 @@ pub impl<'a> Iterator for Messages<'a> as MessagesIterator {
         if self.left == 0 || self.number > MOST {
             return None;
         }
-        let Some(length) = front_length(self.bytes) else {
+        let Some(length) = front_length(self.bytes, 5, 80) else {
             return None;
         };
         let number = self.number;
