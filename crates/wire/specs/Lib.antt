@@ -1,9 +1,6 @@
 pub mod Numbers
-pub mod Codes
 pub mod Names
 pub mod Limits
 pub mod Messages
 pub mod Frames
 pub mod Packets
-pub mod Fields
-pub mod Sessions

@@ -8,11 +8,11 @@ use Rattle.std.specs.declared.option.Option.{Option}
 use Rattle.std.specs.declared.option.Option.the-variants.{Some, None}
 use Rattle.std.specs.declared.result.Result.{Result}
 use Rattle.std.specs.declared.result.Result.the-variants.{Ok, Err}
-use Rattle.wire.specs.declared.cause.Cause.{Cause}
-use Rattle.wire.specs.declared.cause.Cause.the-variants.{Length, Field, InSnapshot}
-use Rattle.wire.specs.declared.code.Side.{Side}
-use Rattle.wire.specs.declared.code.EventCode.{EventCode}
-use Rattle.wire.specs.declared.code.Status.{Status}
+use Rattle.codes.specs.declared.cause.Cause.{Cause}
+use Rattle.codes.specs.declared.cause.Cause.the-variants.{Length, Field, InSnapshot}
+use Rattle.codes.specs.declared.code.Side.{Side}
+use Rattle.codes.specs.declared.code.EventCode.{EventCode}
+use Rattle.codes.specs.declared.code.Status.{Status}
 use Rattle.wire.specs.declared.name.Symbol.{Symbol}
 use Rattle.wire.specs.declared.order.OrderRow.{OrderRow}
 use Rattle.wire.specs.declared.order.Order.{Order}
@@ -21,7 +21,7 @@ use Rattle.wire.specs.declared.message.Message.the-variants as message
 use Rattle.wire.specs.declared.message.Entry.{Entry}
 use Rattle.wire.specs.declared.message.Entry.the-variants as entry
 use Rattle.wire.specs.Numbers.{most32, be32, be64}
-use Rattle.wire.specs.Codes.{side-of, event-of, status-of}
+use Rattle.codes.specs.Codes.{side-of, event-of, status-of}
 use Rattle.wire.specs.Names.{symbol-of}
 use Rattle.wire.specs.Limits.{some-shares, in-range}
 

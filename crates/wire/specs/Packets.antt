@@ -10,8 +10,8 @@ use Rattle.std.specs.declared.option.Option.{Option}
 use Rattle.std.specs.declared.option.Option.the-variants.{Some, None}
 use Rattle.std.specs.declared.result.Result.{Result}
 use Rattle.std.specs.declared.result.Result.the-variants.{Ok, Err}
-use Rattle.wire.specs.declared.refusal.Refusal.{Refusal}
-use Rattle.wire.specs.declared.refusal.Refusal.the-variants.{ShortPacket, PacketNumbers, PacketLayout}
+use Rattle.codes.specs.declared.refusal.Refusal.{Refusal}
+use Rattle.codes.specs.declared.refusal.Refusal.the-variants.{ShortPacket, PacketNumbers, PacketLayout}
 use Rattle.wire.specs.declared.name.Session.{Session}
 use Rattle.wire.specs.declared.packet.Packet.{Packet}
 use Rattle.wire.specs.declared.packet.Packet.the-variants as packet

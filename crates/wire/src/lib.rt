@@ -1,38 +1,20 @@
-// The venue's bytes: integers, symbols and session names, messages, packets, session messages and
-// number fields, and the enums that answers are made of.
+// The venue's bytes: integers, symbols and session names, messages and packets.
 mod bytes;
-mod cause;
-mod code;
-mod field;
-mod lamp;
 mod message;
 mod name;
 mod order;
 mod packet;
-mod refusal;
-mod session;
-pub use cause::Cause;
-pub use code::EventCode;
-pub use code::ShortSell;
-pub use code::Side;
-pub use code::Status;
-pub use code::Trading;
-pub use field::read_number;
-pub use field::write_number;
-pub use lamp::Lamp;
+pub use bytes::front_length;
 pub use message::Entry;
 pub use message::Message;
 pub use name::Session;
+pub use name::SessionPartialEq;
 pub use name::Symbol;
+pub use name::SymbolPartialEq;
 pub use order::Order;
 pub use order::OrderRow;
+pub use order::OrderRowPartialEq;
 pub use packet::Messages;
 pub use packet::MessagesIterator;
 pub use packet::Numbered;
 pub use packet::Packet;
-pub use refusal::Refusal;
-pub use refusal::RefusalNumber;
-pub use session::Opened;
-pub use session::SessionMessage;
-pub use session::SessionMessages;
-pub use session::SessionMessagesIterator;

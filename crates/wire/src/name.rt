@@ -4,7 +4,7 @@ ghost use Rattle.std.specs.Orderings.{Decides};
 ghost use Rattle.wire.specs.Names.{symbol-of, session-of};
 
 // A stock's symbol: any six bytes.
-#[derive(Clone, Copy, Eq, Debug)]
+#[derive(Clone, Copy, Eq)]
 pub struct Symbol {
     bytes: [u8; 6],
 }
@@ -38,7 +38,7 @@ pub impl PartialEq<Symbol> for Symbol as SymbolPartialEq {
 }
 
 // A session's name: ten bytes.
-#[derive(Clone, Copy, Eq, Debug)]
+#[derive(Clone, Copy, Eq)]
 pub struct Session {
     bytes: [u8; 10],
 }

@@ -2,17 +2,15 @@
 ghost use mathlib.Core.Path.{_≡_};
 ghost use mathlib.Core.Bool.{true};
 ghost use Rattle.wire.specs.Limits.{in-range};
-use crate::code::Side;
-use crate::code::SideDebug;
-use crate::code::SidePartialEq;
+use codes::Side;
+use codes::SidePartialEq;
 use crate::name::Symbol;
-use crate::name::SymbolDebug;
 use crate::name::SymbolPartialEq;
 
 mod calls;
 
 // An order as a table's slot holds it: any numbers.
-#[derive(Clone, Copy, PartialEq, Eq, Debug)]
+#[derive(Clone, Copy, PartialEq, Eq)]
 pub struct OrderRow {
     pub reference: u32,
     pub side: Side,

@@ -9,7 +9,7 @@ use crate::bytes::be16;
 use crate::bytes::be32;
 use crate::bytes::front_length;
 use crate::name::Session;
-use crate::refusal::Refusal;
+use codes::Refusal;
 
 const MOST: u32 = 2_147_483_647;
 const MOST_COUNT: u16 = 32_767;

@@ -1,0 +1,21 @@
+// The enums that answers are made of, each with the number or the letter of its cases.
+mod cause;
+mod code;
+mod lamp;
+mod refusal;
+pub use cause::Cause;
+pub use cause::CausePartialEq;
+pub use code::EventCode;
+pub use code::EventCodePartialEq;
+pub use code::ShortSell;
+pub use code::ShortSellPartialEq;
+pub use code::Side;
+pub use code::SidePartialEq;
+pub use code::Status;
+pub use code::StatusPartialEq;
+pub use code::Trading;
+pub use code::TradingPartialEq;
+pub use lamp::Lamp;
+pub use lamp::LampPartialEq;
+pub use refusal::Refusal;
+pub use refusal::RefusalNumber;
