@@ -10,16 +10,16 @@ use Rattle.codes.specs.declared.refusal.Refusal.{Refusal}
 use Rattle.codes.specs.declared.refusal.Refusal.the-variants as refusal
 use Rattle.codes.specs.declared.refusal.RefusalNumber.{RefusalNumber}
 use Rattle.codes.specs.declared.refusal.RefusalNumber.the-variants as name
-use Rattle.codes.specs.declared.code.Side.{Side}
-use Rattle.codes.specs.declared.code.Side.the-variants.{Buy, Sell}
-use Rattle.codes.specs.declared.code.EventCode.{EventCode}
-use Rattle.codes.specs.declared.code.EventCode.the-variants.{StartOfMessages, StartOfTrading, EndOfSystem, EndOfMessages}
-use Rattle.codes.specs.declared.code.Trading.{Trading}
-use Rattle.codes.specs.declared.code.Trading.the-variants as trading
-use Rattle.codes.specs.declared.code.ShortSell.{ShortSell}
-use Rattle.codes.specs.declared.code.ShortSell.the-variants as short
-use Rattle.codes.specs.declared.code.Status.{Status}
-use Rattle.codes.specs.declared.code.Status.the-variants as status
+use Rattle.codes.specs.declared.side.Side.{Side}
+use Rattle.codes.specs.declared.side.Side.the-variants.{Buy, Sell}
+use Rattle.codes.specs.declared.event.EventCode.{EventCode}
+use Rattle.codes.specs.declared.event.EventCode.the-variants.{StartOfMessages, StartOfTrading, EndOfSystem, EndOfMessages}
+use Rattle.codes.specs.declared.trading.Trading.{Trading}
+use Rattle.codes.specs.declared.trading.Trading.the-variants as trading
+use Rattle.codes.specs.declared.short.ShortSell.{ShortSell}
+use Rattle.codes.specs.declared.short.ShortSell.the-variants as short
+use Rattle.codes.specs.declared.status.Status.{Status}
+use Rattle.codes.specs.declared.status.Status.the-variants as status
 
 -- a to h
 abbrev pub cause-letter : Cause → ℕ

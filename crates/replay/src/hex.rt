@@ -28,7 +28,7 @@ fn pair(high: u8, low: u8) -> Option<u8>
 }
 
 // The bytes that a text says, or none where it is no pairs of digits.
-pub fn decode(heap: Global, text: &[u8]) -> Result<Option<Vec<u8>>, AllocError>
+pub(crate) fn decode(heap: Global, text: &[u8]) -> Result<Option<Vec<u8>>, AllocError>
     ensures { λ r. ⌜ made r (λ o. mapped vec-items o ≡ bytes-of (now (text .entry))) ⌝ }
 {
     let mut bytes = Vec::new(heap);

@@ -17,7 +17,7 @@ use wire::Order;
 use wire::Packet;
 use wire::Symbol;
 
-pub fn packet(rt: &LibcRuntime, bytes: &[u8]) -> io::Result<()> {
+pub(crate) fn packet(rt: &LibcRuntime, bytes: &[u8]) -> io::Result<()> {
     match Packet::read(bytes) {
         Err(refusal) => refused(rt, refusal),
         Ok(Packet::Heartbeat { next, session }) => {
@@ -39,7 +39,7 @@ pub fn packet(rt: &LibcRuntime, bytes: &[u8]) -> io::Result<()> {
 }
 
 // A snapshot's session bytes, up to its End message.
-pub fn snapshot(rt: &LibcRuntime, bytes: &[u8]) -> io::Result<()> {
+pub(crate) fn snapshot(rt: &LibcRuntime, bytes: &[u8]) -> io::Result<()> {
     let Some(opened) = Opened::read(bytes) else {
         return refused(rt, Refusal::NotOpened);
     };

@@ -7,7 +7,7 @@ use lib.Dec.{eqb}
 use lib.ListN.{length, getD, take, drop}
 use Rattle.std.specs.declared.option.Option.{Option}
 use Rattle.std.specs.declared.option.Option.the-variants.{Some, None}
-use Rattle.wire.specs.declared.name.Session.{Session}
+use Rattle.wire.specs.declared.session.Session.{Session}
 use Rattle.session.specs.declared.messages.SessionMessage.{SessionMessage}
 use Rattle.session.specs.declared.messages.SessionMessages.{SessionMessages}
 use Rattle.session.specs.declared.messages.Opened.{Opened}

@@ -10,10 +10,10 @@ use Rattle.std.specs.declared.result.Result.{Result}
 use Rattle.std.specs.declared.result.Result.the-variants.{Ok, Err}
 use Rattle.codes.specs.declared.cause.Cause.{Cause}
 use Rattle.codes.specs.declared.cause.Cause.the-variants.{Length, Field, InSnapshot}
-use Rattle.codes.specs.declared.code.Side.{Side}
-use Rattle.codes.specs.declared.code.EventCode.{EventCode}
-use Rattle.codes.specs.declared.code.Status.{Status}
-use Rattle.wire.specs.declared.name.Symbol.{Symbol}
+use Rattle.codes.specs.declared.side.Side.{Side}
+use Rattle.codes.specs.declared.event.EventCode.{EventCode}
+use Rattle.codes.specs.declared.status.Status.{Status}
+use Rattle.wire.specs.declared.symbol.Symbol.{Symbol}
 use Rattle.wire.specs.declared.order.OrderRow.{OrderRow}
 use Rattle.wire.specs.declared.order.Order.{Order}
 use Rattle.wire.specs.declared.message.Message.{Message}

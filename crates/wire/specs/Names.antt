@@ -6,8 +6,8 @@ use lib.Dec.{eqb}
 use lib.ListN.{length}
 use Rattle.std.specs.declared.option.Option.{Option}
 use Rattle.std.specs.declared.option.Option.the-variants.{Some, None}
-use Rattle.wire.specs.declared.name.Symbol.{Symbol}
-use Rattle.wire.specs.declared.name.Session.{Session}
+use Rattle.wire.specs.declared.symbol.Symbol.{Symbol}
+use Rattle.wire.specs.declared.session.Session.{Session}
 
 -- a symbol is any six bytes
 abbrev pub symbol-of : List ℕ → Option Symbol

@@ -12,7 +12,7 @@ use Rattle.std.specs.declared.result.Result.{Result}
 use Rattle.std.specs.declared.result.Result.the-variants.{Ok, Err}
 use Rattle.codes.specs.declared.refusal.Refusal.{Refusal}
 use Rattle.codes.specs.declared.refusal.Refusal.the-variants.{ShortPacket, PacketNumbers, PacketLayout}
-use Rattle.wire.specs.declared.name.Session.{Session}
+use Rattle.wire.specs.declared.session.Session.{Session}
 use Rattle.wire.specs.declared.packet.Packet.{Packet}
 use Rattle.wire.specs.declared.packet.Packet.the-variants as packet
 use Rattle.wire.specs.declared.packet.Messages.{Messages}

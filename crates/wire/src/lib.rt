@@ -1,16 +1,17 @@
 // The venue's bytes: integers, symbols and session names, messages and packets.
 mod bytes;
 mod message;
-mod name;
 mod order;
 mod packet;
+mod session;
+mod symbol;
 pub use bytes::front_length;
 pub use message::Entry;
 pub use message::Message;
-pub use name::Session;
-pub use name::SessionPartialEq;
-pub use name::Symbol;
-pub use name::SymbolPartialEq;
+pub use session::Session;
+pub use session::SessionPartialEq;
+pub use symbol::Symbol;
+pub use symbol::SymbolPartialEq;
 pub use order::Order;
 pub use order::OrderRow;
 pub use order::OrderRowPartialEq;

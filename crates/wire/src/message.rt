@@ -11,7 +11,7 @@ use codes::Cause;
 use codes::EventCode;
 use codes::Side;
 use codes::Status;
-use crate::name::Symbol;
+use crate::symbol::Symbol;
 use crate::order::Order;
 use crate::order::OrderRow;
 

@@ -4,8 +4,8 @@ ghost use mathlib.Core.Bool.{true};
 ghost use Rattle.wire.specs.Limits.{in-range};
 use codes::Side;
 use codes::SidePartialEq;
-use crate::name::Symbol;
-use crate::name::SymbolPartialEq;
+use crate::symbol::Symbol;
+use crate::symbol::SymbolPartialEq;
 
 mod calls;
 

@@ -8,7 +8,7 @@ ghost use Rattle.wire.specs.Packets as Sent;
 use crate::bytes::be16;
 use crate::bytes::be32;
 use crate::bytes::front_length;
-use crate::name::Session;
+use crate::session::Session;
 use codes::Refusal;
 
 const MOST: u32 = 2_147_483_647;

@@ -1,7 +1,7 @@
 use mathlib.Core.Path.{ap}
 use Rattle.std.proofs.shelf.Equals.{matches-decides}
-use Rattle.wire.specs.declared.name.Session.{Session}
-use Rattle.wire.proofs.name.SessionPartialEq.eq.Needs as need
+use Rattle.wire.specs.declared.session.Session.{Session}
+use Rattle.wire.proofs.session.SessionPartialEq.eq.Needs as need
 
 pub returns : need.returns
 returns c =

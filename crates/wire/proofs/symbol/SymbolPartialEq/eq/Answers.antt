@@ -1,7 +1,7 @@
 use mathlib.Core.Path.{ap}
 use Rattle.std.proofs.shelf.Equals.{matches-decides}
-use Rattle.wire.specs.declared.name.Symbol.{Symbol}
-use Rattle.wire.proofs.name.SymbolPartialEq.eq.Needs as need
+use Rattle.wire.specs.declared.symbol.Symbol.{Symbol}
+use Rattle.wire.proofs.symbol.SymbolPartialEq.eq.Needs as need
 
 pub returns : need.returns
 returns c =
