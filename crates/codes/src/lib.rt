@@ -7,6 +7,7 @@ mod short;
 mod side;
 mod status;
 mod trading;
+
 pub use cause::Cause;
 pub use cause::CausePartialEq;
 pub use event::EventCode;

@@ -40,5 +40,9 @@ pub(crate) fn decode(heap: Global, text: &[u8]) -> Result<Option<Vec<u8>>, Alloc
         bytes.push(byte)?;
         rest = &rest[2..];
     }
-    if rest.is_empty() { Ok(Some(bytes)) } else { Ok(None) }
+    if rest.is_empty() {
+        Ok(Some(bytes))
+    } else {
+        Ok(None)
+    }
 }

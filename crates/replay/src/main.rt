@@ -1,6 +1,7 @@
 // Reads a session script on standard input, a call to a line, and prints what each line says.
 mod hex;
 mod show;
+
 use std::io;
 use std::io::BufRead;
 use std::io::BufReader;

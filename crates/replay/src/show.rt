@@ -95,7 +95,11 @@ fn add(rt: &LibcRuntime, order: Order) -> io::Result<()> {
     let reference = row.reference;
     let shares = row.shares;
     let price = row.price;
-    println!(rt, "add {reference} {} {shares} {name} {price}", row.side.letter())
+    println!(
+        rt,
+        "add {reference} {} {shares} {name} {price}",
+        row.side.letter()
+    )
 }
 
 // A name as its characters without the spaces behind, or in hexadecimal where it has others than those from ! to ~.

@@ -58,8 +58,8 @@ digits-decimal =
     decimal-by-steps (λ n ds. n ≤ most32 → digits-after 0 ds ≡ Some n)
     (λ n small h. let e : one-more 0 (48 + n) ≡ Some n = grind (arith, tells) in ap (after []) e)
     (λ n ds big h l.
-        let e : one-more (n / 10) (48 + n % 10) ≡ Some n = grind (arith, tells) in
-        digits-push 0 ds (48 + n % 10) ∙ ap (push (48 + n % 10)) (h (omega arith)) ∙ e)
+    let e : one-more (n / 10) (48 + n % 10) ≡ Some n = grind (arith, tells) in
+    digits-push 0 ds (48 + n % 10) ∙ ap (push (48 + n % 10)) (h (omega arith)) ∙ e)
 
 numeral-over : (ds : List ℕ) → 48 < getD ds 0 0 → numeral ds ≡ digits-after 0 ds
 numeral-over [] h = absurd (omega arith)
@@ -120,11 +120,11 @@ module _ (n left at : ℕ) (field : List ℕ) (small : n ≤ most32) (w : Writin
       let one = room big in
       let e : at ≡ at - 1 + 1 = omega arith in
       record {
-          joined = subst (λ k. decimal (left / 10) ++ drop k (set field at d) ≡ decimal n) e (one-digit big);
-          blank = subst (λ k. take k (set field at d) ≡ replicate k 32) e (take-set field at d ∙ before);
-          inside = omega (arith, w .inside);
-          ten = length-set field at d ∙ w .ten;
-          few = omega (arith, w .few);
+        joined = subst (λ k. decimal (left / 10) ++ drop k (set field at d) ≡ decimal n) e (one-digit big);
+        blank = subst (λ k. take k (set field at d) ≡ replicate k 32) e (take-set field at d ∙ before);
+        inside = omega (arith, w .inside);
+        ten = length-set field at d ∙ w .ten;
+        few = omega (arith, w .few);
       }
 
   pub written : left < 10 → set field at (48 + left) ≡ number-field n

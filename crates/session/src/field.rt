@@ -14,6 +14,9 @@ use codes::Refusal;
 
 const MOST: u32 = 2_147_483_647;
 
+// The bytes of a number field.
+pub type NumberField = [u8; 10];
+
 // The number that a field says: spaces, then one or more digits without a leading zero.
 pub fn read_number(field: &[u8]) -> Option<u32>
     ensures { λ r. ⌜ r ≡ number-of (now (field .entry)) ⌝ }
@@ -71,7 +74,7 @@ fn with_digit(value: u32, digit: u8) -> Option<u32>
 }
 
 // The field that says a number, right-justified in spaces. It reads back as that number.
-pub fn write_number(number: u32) -> Result<[u8; 10], Refusal>
+pub fn write_number(number: u32) -> Result<NumberField, Refusal>
     ensures value { λ r. ⌜ r ≡ cond (leb number most32) (Ok (number-field number)) (Err Refusal.NoRequest) ⌝ }
     ensures reads_back { λ r. ⌜ made r (λ field. number-of field ≡ Some number) ⌝ }
 {

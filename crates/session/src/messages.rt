@@ -3,9 +3,9 @@ ghost use mathlib.Core.Path.{_≡_};
 ghost use lib.ListN.{length};
 ghost use Rattle.std.specs.Options.{mapped};
 ghost use Rattle.session.specs.Sessions.{session-messages, following, opening, opening-by, login-accepted, opened, Read};
-use wire::front_length;
 use crate::field::read_number;
 use wire::Session;
+use wire::front_length;
 
 // A whole session message: its letter, and the data behind that.
 #[derive(Clone, Copy)]
@@ -84,5 +84,9 @@ fn accepted<'a>(body: &[u8], messages: SessionMessages<'a>) -> Option<Opened<'a>
     }
     let session = Session::read(&body[0..10])?;
     let number = read_number(&body[10..20])?;
-    Some(Opened { session, number, messages })
+    Some(Opened {
+        session,
+        number,
+        messages,
+    })
 }

@@ -5,21 +5,21 @@ ghost use lib.ListN.{length};
 ghost use Rattle.wire.specs.Frames.{front-length};
 ghost use Rattle.wire.specs.Numbers.{be16 as bigEndian16, be32 as bigEndian32, be64 as bigEndian64};
 
-pub fn be16(bytes: &[u8], at: usize) -> u16
+pub(crate) fn be16(bytes: &[u8], at: usize) -> u16
     requires { ⌜ at + 2 ≤ length (now bytes) ⌝ }
     ensures { λ r. ⌜ r ≡ bigEndian16 (now (bytes .entry)) at ⌝ }
 {
     u16::from_be_bytes([bytes[at], bytes[at + 1]])
 }
 
-pub fn be32(bytes: &[u8], at: usize) -> u32
+pub(crate) fn be32(bytes: &[u8], at: usize) -> u32
     requires { ⌜ at + 4 ≤ length (now bytes) ⌝ }
     ensures { λ r. ⌜ r ≡ bigEndian32 (now (bytes .entry)) at ⌝ }
 {
     u32::from_be_bytes([bytes[at], bytes[at + 1], bytes[at + 2], bytes[at + 3]])
 }
 
-pub fn be64(bytes: &[u8], at: usize) -> u64
+pub(crate) fn be64(bytes: &[u8], at: usize) -> u64
     requires { ⌜ at + 8 ≤ length (now bytes) ⌝ }
     ensures { λ r. ⌜ r ≡ bigEndian64 (now (bytes .entry)) at ⌝ }
 {

@@ -7,13 +7,13 @@ ghost use Rattle.wire.specs.Messages as said;
 ghost use Rattle.std.specs.declared.result.Result.the-variants.{Ok};
 use crate::bytes::be32;
 use crate::bytes::be64;
+use crate::order::Order;
+use crate::order::OrderRow;
+use crate::symbol::Symbol;
 use codes::Cause;
 use codes::EventCode;
 use codes::Side;
 use codes::Status;
-use crate::symbol::Symbol;
-use crate::order::Order;
-use crate::order::OrderRow;
 
 // A message of the feed.
 #[derive(Clone, Copy)]
@@ -110,7 +110,13 @@ fn add(bytes: &[u8]) -> Result<Message, Cause>
     if bytes[28] != b'Y' {
         return Err(Cause::Field);
     }
-    let row = OrderRow { reference: be32(bytes, 5), side, shares: be32(bytes, 10), symbol, price: be64(bytes, 20) };
+    let row = OrderRow {
+        reference: be32(bytes, 5),
+        side,
+        shares: be32(bytes, 10),
+        symbol,
+        price: be64(bytes, 20),
+    };
     match Order::new(row) {
         Some(order) => Ok(Message::Add(order)),
         None => Err(Cause::Field),

@@ -2,10 +2,10 @@
 ghost use mathlib.Core.Path.{_≡_};
 ghost use mathlib.Core.Bool.{true};
 ghost use Rattle.wire.specs.Limits.{in-range};
-use codes::Side;
-use codes::SidePartialEq;
 use crate::symbol::Symbol;
 use crate::symbol::SymbolPartialEq;
+use codes::Side;
+use codes::SidePartialEq;
 
 mod calls;
 

@@ -12,6 +12,7 @@ use crate::session::Session;
 use codes::Refusal;
 
 const MOST: u32 = 2_147_483_647;
+
 const MOST_COUNT: u16 = 32_767;
 
 #[derive(Clone, Copy)]
@@ -50,7 +51,11 @@ impl<'a> Packet<'a> {
             return Err(Refusal::PacketNumbers);
         }
         let rest = &bytes[6..];
-        if count == 0 { heartbeat(number, rest) } else { data(number, count, rest) }
+        if count == 0 {
+            heartbeat(number, rest)
+        } else {
+            data(number, count, rest)
+        }
     }
 }
 
@@ -58,7 +63,10 @@ impl<'a> Packet<'a> {
 fn well_numbered(number: u32, count: u16) -> bool
     ensures { λ r. ⌜ r ≡ well-numbered number count ⌝ }
 {
-    number >= 1 && count <= MOST_COUNT && number <= MOST && u32::from(count.saturating_sub(1)) <= MOST - number
+    number >= 1
+        && count <= MOST_COUNT
+        && number <= MOST
+        && u32::from(count.saturating_sub(1)) <= MOST - number
 }
 
 fn heartbeat(next: u32, rest: &[u8]) -> Result<Packet<'_>, Refusal>
@@ -77,7 +85,11 @@ fn data(number: u32, count: u16, rest: &[u8]) -> Result<Packet<'_>, Refusal>
     if !filled(rest, count) {
         return Err(Refusal::PacketLayout);
     }
-    Ok(Packet::Data(Messages { bytes: rest, number, left: count }))
+    Ok(Packet::Data(Messages {
+        bytes: rest,
+        number,
+        left: count,
+    }))
 }
 
 // Whether so many messages fill the bytes.

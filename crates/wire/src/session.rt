@@ -3,10 +3,13 @@ ghost use mathlib.Core.Path.{_≡_};
 ghost use Rattle.std.specs.Orderings.{Decides};
 ghost use Rattle.wire.specs.Names.{session-of};
 
+// The bytes of a session's name.
+pub type SessionBytes = [u8; 10];
+
 // A session's name: ten bytes.
 #[derive(Clone, Copy, Eq)]
 pub struct Session {
-    bytes: [u8; 10],
+    bytes: SessionBytes,
 }
 
 impl Session {
@@ -22,7 +25,7 @@ impl Session {
         Some(Session { bytes: name })
     }
 
-    pub fn bytes(&self) -> [u8; 10]
+    pub fn bytes(&self) -> SessionBytes
         ensures { λ r. ⌜ r ≡ now (self .entry) .bytes ⌝ }
     {
         self.bytes

@@ -3,10 +3,13 @@ ghost use mathlib.Core.Path.{_≡_};
 ghost use Rattle.std.specs.Orderings.{Decides};
 ghost use Rattle.wire.specs.Names.{symbol-of};
 
+// The bytes of a symbol.
+pub type SymbolBytes = [u8; 6];
+
 // A stock's symbol: any six bytes.
 #[derive(Clone, Copy, Eq)]
 pub struct Symbol {
-    bytes: [u8; 6],
+    bytes: SymbolBytes,
 }
 
 impl Symbol {
@@ -22,7 +25,7 @@ impl Symbol {
         Some(Symbol { bytes: name })
     }
 
-    pub fn bytes(&self) -> [u8; 6]
+    pub fn bytes(&self) -> SymbolBytes
         ensures { λ r. ⌜ r ≡ now (self .entry) .bytes ⌝ }
     {
         self.bytes

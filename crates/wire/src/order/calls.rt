@@ -6,6 +6,7 @@ use super::Order;
 use super::OrderRow;
 
 const MOST: u32 = 2_147_483_647;
+
 const MOST_PRICE: u64 = 1_000_000_000_000_000;
 
 impl Order {

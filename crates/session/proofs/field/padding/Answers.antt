@@ -15,6 +15,6 @@ loop-i-again c = sym (unpadded-at (c .args .field .now) (c .loop-i .i) (omega ar
 pub returns : need.returns
 returns c =
     record {
-        within = omega arith;
-        rest = drop-all _ (c .args .field .now) (omega arith) ∙ sym (at-drop-all unpadded (c .args .field .now) (c .loop-i .i) (omega arith)) ∙ c .loop-i .inv;
+      within = omega arith;
+      rest = drop-all _ (c .args .field .now) (omega arith) ∙ sym (at-drop-all unpadded (c .args .field .now) (c .loop-i .i) (omega arith)) ∙ c .loop-i .inv;
     }

@@ -17,6 +17,6 @@ returns c =
     let small = c .if-number-gt-MOST .left in
     let e = written (c .args .number) _ _ (c .loop-left .field) small (c .loop-left .inv) (c .loop-left-test .left) in
     record {
-        value = ap Ok e ∙ sym (cond-true _ _ _ (le-leb (c .args .number) most32 small));
-        reads-back = ap number-of e ∙ reads-back (c .args .number) small;
+      value = ap Ok e ∙ sym (cond-true _ _ _ (le-leb (c .args .number) most32 small));
+      reads-back = ap number-of e ∙ reads-back (c .args .number) small;
     }

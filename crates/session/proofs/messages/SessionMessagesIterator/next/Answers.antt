@@ -19,8 +19,8 @@ returns c =
     let size : k - 1 ≡ 2 + k - 3 = omega arith in
     let head : ℕ → Framed = λ n. record { letter = getD b 2 0; body = take n (drop 3 b) } in
     record {
-        steps = session-step b _ (c .in-Some .ensures tt)
-            ∙ ap (λ n. head n ∷ session-messages (drop (2 + k) b)) size
-            ∙ sym (ap (λ r. head (2 + k - 3) ∷ session-messages r) (take-rest b (2 + k)));
-        goes = search needs;
+      steps = session-step b _ (c .in-Some .ensures tt)
+          ∙ ap (λ n. head n ∷ session-messages (drop (2 + k) b)) size
+          ∙ sym (ap (λ r. head (2 + k - 3) ∷ session-messages r) (take-rest b (2 + k)));
+      goes = search needs;
     }

@@ -14,10 +14,14 @@ pub returns-then-self-eq0 : need.returns-then-self-eq0
 returns-then-self-eq0 c =
     let s = c .args .self .now in
     record {
-        steps = (elim (c .then-self-eq0 .came)
-            [ then-self-eq0·by·then-self-eq0 w ↦ walked-none (s .left) (s .number) (s .bytes .now) (w .if-self-eq0 .taken)
-            | then-self-eq0·by·else-self-eq0·then-self-gt-MOST w ↦ walked-past (s .left) (s .number) (s .bytes .now) (w .if-self-gt-MOST .taken) ], refl);
-        goes = search needs;
+      steps = (
+        elim (c .then-self-eq0 .came) [
+          | then-self-eq0·by·then-self-eq0 w ↦ walked-none (s .left) (s .number) (s .bytes .now) (w .if-self-eq0 .taken)
+          | then-self-eq0·by·else-self-eq0·then-self-gt-MOST w ↦ walked-past (s .left) (s .number) (s .bytes .now) (w .if-self-gt-MOST .taken)
+        ],
+        refl,
+      );
+      goes = search needs;
     }
 
 pub returns-in-rest : need.returns-in-rest
@@ -33,8 +37,12 @@ returns c =
     let more : s .left ≡ suc (s .left - 1) = omega arith in
     let same : 2 + k - 2 ≡ k = omega arith in
     record {
-        steps = (walked-step (s .left) (s .left - 1) (s .number) (s .bytes .now) _ (c .in-Some .ensures tt) more (omega arith)
+      steps = (
+        walked-step (s .left) (s .left - 1) (s .number) (s .bytes .now) _ (c .in-Some .ensures tt) more (omega arith)
             ∙ sym (ap (λ j. take j (drop 2 (s .bytes .now)) ∷ walked (s .left - 1) (s .number + 1) (drop (2 + k) (s .bytes .now))) same)
-            ∙ sym (ap (λ r. take (2 + k - 2) (drop 2 (s .bytes .now)) ∷ walked (s .left - 1) (s .number + 1) r) (take-rest (s .bytes .now) (2 + k))), refl, refl);
-        goes = search needs;
+            ∙ sym (ap (λ r. take (2 + k - 2) (drop 2 (s .bytes .now)) ∷ walked (s .left - 1) (s .number + 1) r) (take-rest (s .bytes .now) (2 + k))),
+        refl,
+        refl,
+      );
+      goes = search needs;
     }
