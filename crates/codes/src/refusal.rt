@@ -65,7 +65,8 @@ pub enum Refusal {
 }
 
 impl Refusal {
-    fn name(self) -> RefusalNumber
+    // The refusal without what it names.
+    pub fn name(self) -> RefusalNumber
         ensures { λ r. ⌜ r ≡ numbered self ⌝ }
     {
         match self {

@@ -10,11 +10,11 @@ use session::SessionMessagesIterator;
 use std::alloc::AllocError;
 use std::alloc::Global;
 use std::io;
-use wire::Entry;
 use wire::Message;
 use wire::MessagesIterator;
 use wire::Order;
 use wire::Packet;
+use wire::SnapshotMessage;
 use wire::Symbol;
 
 pub(crate) fn packet(rt: &LibcRuntime, bytes: &[u8]) -> io::Result<()> {
@@ -38,34 +38,59 @@ pub(crate) fn packet(rt: &LibcRuntime, bytes: &[u8]) -> io::Result<()> {
     }
 }
 
-// A snapshot's session bytes, up to its End message.
+// A snapshot's session bytes, up to its End message or to what refuses it.
 pub(crate) fn snapshot(rt: &LibcRuntime, bytes: &[u8]) -> io::Result<()> {
     let Some(opened) = Opened::read(bytes) else {
         return refused(rt, Refusal::NotOpened);
     };
-    let number = opened.number;
+    let mode = opened.number;
+    if mode != 1 && mode != 2 {
+        return refused(rt, Refusal::NotOpened);
+    }
     let name = text(rt.alloc(), &opened.session.bytes())?;
-    println!(rt, "session {name} mode {number}")?;
+    println!(rt, "session {name} mode {mode}")?;
     for m in opened.messages {
         match m.letter as char {
-            'S' => entry(rt, m.body)?,
             '+' | 'H' => {}
-            other => println!(rt, "letter {other}")?,
+            'S' => {
+                if there(rt, m.body)? {
+                    return Ok(());
+                }
+            }
+            _ => return refused(rt, Refusal::SnapshotCut),
         }
     }
-    Ok(())
+    refused(rt, Refusal::SnapshotCut)
 }
 
+// One message of a snapshot, and whether it is the last that is read.
+fn there(rt: &LibcRuntime, bytes: &[u8]) -> io::Result<bool> {
+    if bytes.len() < 5 || bytes.len() > 80 {
+        refused(rt, Refusal::SnapshotCut)?;
+        return Ok(true);
+    }
+    match SnapshotMessage::read(bytes) {
+        Ok(SnapshotMessage::Message(said)) => {
+            message(rt, said)?;
+            Ok(false)
+        }
+        Ok(SnapshotMessage::End { next }) => {
+            println!(rt, "end {next}")?;
+            Ok(true)
+        }
+        Err(cause) => {
+            refused(rt, Refusal::SnapshotStopped(cause))?;
+            Ok(true)
+        }
+    }
+}
+
+// A refusal's number, with the cause that it names.
 fn refused(rt: &LibcRuntime, refusal: Refusal) -> io::Result<()> {
     let number = refusal.number();
-    println!(rt, "refused {number}")
-}
-
-fn entry(rt: &LibcRuntime, bytes: &[u8]) -> io::Result<()> {
-    match Entry::read(bytes) {
-        Ok(Entry::Message(said)) => message(rt, said),
-        Ok(Entry::End { next }) => println!(rt, "end {next}"),
-        Err(cause) => println!(rt, "cause {}", cause.letter()),
+    match refusal {
+        Refusal::SnapshotStopped(cause) => println!(rt, "refused {number} {}", cause.letter()),
+        _ => println!(rt, "refused {number}"),
     }
 }
 

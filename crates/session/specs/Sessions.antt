@@ -65,13 +65,13 @@ opening (m ∷ ms) =
 abbrev pub framed : SessionMessage → Framed
 framed m = record { letter = m .letter; body = m .body .now }
 
-abbrev pub following : SessionMessages → List Framed
-following s = session-messages (s .bytes .now)
+abbrev pub rest-of : SessionMessages → List Framed
+rest-of s = session-messages (s .bytes .now)
 
 -- one step: the first message that is left comes, or none is left
 abbrev pub Read : SessionMessages → Option SessionMessage → SessionMessages → Type 0
-Read s None t = (following s ≡ []) × (t ≡ s)
-Read s (Some m) t = following s ≡ framed m ∷ following t
+Read s None t = (rest-of s ≡ []) × (t ≡ s)
+Read s (Some m) t = rest-of s ≡ framed m ∷ rest-of t
 
 abbrev pub opened : Opened → Opening
-opened o = record { session = o .session; number = o .number; follow = following (o .messages) }
+opened o = record { session = o .session; number = o .number; follow = rest-of (o .messages) }

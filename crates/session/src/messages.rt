@@ -2,7 +2,7 @@
 ghost use mathlib.Core.Path.{_≡_};
 ghost use lib.ListN.{length};
 ghost use Rattle.std.specs.Options.{mapped};
-ghost use Rattle.session.specs.Sessions.{session-messages, following, opening, opening-by, login-accepted, opened, Read};
+ghost use Rattle.session.specs.Sessions.{session-messages, rest-of, opening, opening-by, login-accepted, opened, Read};
 use crate::field::read_number;
 use wire::Session;
 use wire::front_length;
@@ -22,7 +22,7 @@ pub struct SessionMessages<'a> {
 
 impl<'a> SessionMessages<'a> {
     pub fn new(bytes: &'a [u8]) -> SessionMessages<'a>
-        ensures { λ r. ⌜ following r ≡ session-messages (now (bytes .entry)) ⌝ }
+        ensures { λ r. ⌜ rest-of r ≡ session-messages (now (bytes .entry)) ⌝ }
     {
         SessionMessages { bytes }
     }
@@ -77,7 +77,7 @@ impl<'a> Opened<'a> {
 }
 
 fn accepted<'a>(body: &[u8], messages: SessionMessages<'a>) -> Option<Opened<'a>>
-    ensures { λ r. ⌜ mapped opened r ≡ login-accepted (now (body .entry)) (following (messages .entry)) ⌝ }
+    ensures { λ r. ⌜ mapped opened r ≡ login-accepted (now (body .entry)) (rest-of (messages .entry)) ⌝ }
 {
     if body.len() != 31 {
         return None;

@@ -27,17 +27,17 @@ mod tests {
         }
     }
 
-    // The length and the letter of a packet's message of that number.
-    fn message(bytes: &[u8], number: u32) -> (usize, u8) {
-        let Ok(Packet::Data(messages)) = Packet::read(bytes) else {
-            return (0, 0);
+    // Whether a packet's message of that number has those bytes.
+    fn has(packet: &[u8], number: u32, message: &[u8]) -> bool {
+        let Ok(Packet::Data(messages)) = Packet::read(packet) else {
+            return false;
         };
         for m in messages {
-            if m.number == number && m.bytes.len() > 4 {
-                return (m.bytes.len(), m.bytes[4]);
+            if m.number == number {
+                return m.bytes == message;
             }
         }
-        (0, 0)
+        false
     }
 
     #[test]
@@ -45,12 +45,20 @@ mod tests {
         let one =
             b"\x00\x00\x1c\xe3\x00\x01\x00\x16\x18\x33\xd8\xb8\x45\x00\x00\x00\x15\x00\x00\x03\xe8\x09\x89\x68\x08\x00\x00\x00\x1e\x55";
         check(said(one) == ('D', 7395, 1))?;
-        check(message(one, 7395) == (22, b'E'))?;
+        check(has(
+            one,
+            7395,
+            b"\x18\x33\xd8\xb8\x45\x00\x00\x00\x15\x00\x00\x03\xe8\x09\x89\x68\x08\x00\x00\x00\x1e\x55",
+        ))?;
         let two =
             b"\x00\x00\x1c\xd7\x00\x02\x00\x05\x00\x01\x0b\x75\x54\x00\x1d\x04\x97\xc0\x30\x41\x00\x00\x00\x16\x53\x00\x00\x03\xe8\x32\x35\x33\x31\x20\x20\x00\x00\x00\x02\x54\x0b\xe4\x00\x59";
         check(said(two) == ('D', 7383, 2))?;
-        check(message(two, 7383) == (5, b'T'))?;
-        check(message(two, 7384) == (29, b'A'))?;
+        check(has(two, 7383, b"\x00\x01\x0b\x75\x54"))?;
+        check(has(
+            two,
+            7384,
+            b"\x04\x97\xc0\x30\x41\x00\x00\x00\x16\x53\x00\x00\x03\xe8\x32\x35\x33\x31\x20\x20\x00\x00\x00\x02\x54\x0b\xe4\x00\x59",
+        ))?;
         let beat = b"\x00\x00\x03\x16\x00\x00\x32\x30\x31\x30\x30\x39\x30\x33\x30\x30";
         check(said(beat) == ('H', 790, 0))?;
         let Ok(Packet::Heartbeat { next: _, session }) = Packet::read(beat) else {

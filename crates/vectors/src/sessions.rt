@@ -36,6 +36,18 @@ mod tests {
         Ok(())
     }
 
+    // A length of 32,767 is the largest; one more is cut, however many bytes follow it.
+    #[test]
+    fn longest_message() -> Result<(), Fail> {
+        let mut bytes = [b'H'; 32_770];
+        bytes[0] = 0x7f;
+        bytes[1] = 0xff;
+        check(letters(&bytes[0..32_769]) == (1, b'H'))?;
+        bytes[0] = 0x80;
+        bytes[1] = 0;
+        check(letters(&bytes) == (0, b' '))
+    }
+
     // The number that a session opens with, and how many messages follow; no number where it does not open.
     fn opened(bytes: &[u8]) -> (Option<u32>, u32) {
         let Some(open) = Opened::read(bytes) else {

@@ -18,11 +18,12 @@ use Rattle.wire.specs.declared.order.OrderRow.{OrderRow}
 use Rattle.wire.specs.declared.order.Order.{Order}
 use Rattle.wire.specs.declared.message.Message.{Message}
 use Rattle.wire.specs.declared.message.Message.the-variants as message
-use Rattle.wire.specs.declared.message.Entry.{Entry}
-use Rattle.wire.specs.declared.message.Entry.the-variants as entry
+use Rattle.wire.specs.declared.message.SnapshotMessage.{SnapshotMessage}
+use Rattle.wire.specs.declared.message.SnapshotMessage.the-variants as there
 use Rattle.wire.specs.Numbers.{most32, be32, be64}
 use Rattle.codes.specs.Codes.{side-of, event-of, status-of}
 use Rattle.wire.specs.Names.{symbol-of}
+use Rattle.wire.specs.Answers.{through, or-else}
 use Rattle.wire.specs.Limits.{some-shares, in-range}
 
 -- what a message of the feed says
@@ -40,11 +41,6 @@ pub data Told : Type 0 where
   said : Said → Told
   end : ℕ → Told
 
--- an answer told in other words
-abbrev pub through : {X Y : Type 0} → (X → Y) → Result X Cause → Result Y Cause
-through f (Ok x) = Ok (f x)
-through f (Err cause) = Err cause
-
 -- n bytes from an offset on
 abbrev pub part : ℕ → ℕ → List ℕ → List ℕ
 part at n m = take n (drop at m)
@@ -55,8 +51,11 @@ checked row = cond (in-range (row .reference) (row .shares) (row .price)) (Some 
 
 -- fields that must be as listed
 abbrev pub listed : {X Y : Type 0} → (X → Y) → Option X → Result Y Cause
-listed say None = Err Field
-listed say (Some x) = Ok (say x)
+listed say o = or-else Field say o
+
+-- the letter that decides the kind
+abbrev pub letter-of : List ℕ → ℕ
+letter-of m = getD m 4 0
 
 -- a symbol's six bytes are there once the length is right
 abbrev pub with-symbol : {Y : Type 0} → Option Symbol → (Symbol → Result Y Cause) → Result Y Cause
@@ -86,11 +85,11 @@ abbrev pub add-at : List ℕ → Result Said Cause
 add-at m = with-symbol (symbol-of (part 14 6 m)) (λ symbol. listed add (sided symbol m (side-of (getD m 9 0))))
 
 -- E and X: the reference at 5, the shares at 9
-abbrev pub taken-fields : List ℕ → Option (ℕ × ℕ)
-taken-fields m = cond (leb (be32 m 5) most32 && some-shares (be32 m 9)) (Some (be32 m 5, be32 m 9)) None
+abbrev pub shares-off : List ℕ → Option (ℕ × ℕ)
+shares-off m = cond (leb (be32 m 5) most32 && some-shares (be32 m 9)) (Some (be32 m 5, be32 m 9)) None
 
-abbrev pub taken-at : (ℕ → ℕ → Said) → List ℕ → Result Said Cause
-taken-at say m = listed (λ t. say (t .0) (t .1)) (taken-fields m)
+abbrev pub off-at : (ℕ → ℕ → Said) → List ℕ → Result Said Cause
+off-at say m = listed (λ t. say (t .0) (t .1)) (shares-off m)
 
 -- G: the next number at 5
 abbrev pub end-at : List ℕ → Result Told Cause
@@ -100,24 +99,24 @@ end-at m = cond (leb 1 (be32 m 5) && leb (be32 m 5) most32) (Ok (end (be32 m 5))
 abbrev pub of-length : {X : Type 0} → ℕ → List ℕ → Result X Cause → Result X Cause
 of-length n m fields = cond (eqb (length m) n) fields (Err Length)
 
--- T, S, H, A, E and X by the letter at 4; bytes that end before it have no kind's length
+-- by the letter: T, S, H, A, E, X, and any other; bytes that end before it have no kind's length
 unfoldable pub feed-message : List ℕ → Result Said Cause
 feed-message m =
     cond (ltb (length m) 5) (Err Length)
-    (cond (eqb (getD m 4 0) 84) (of-length 5 m (Ok second))
-    (cond (eqb (getD m 4 0) 83) (of-length 6 m (event-at m))
-    (cond (eqb (getD m 4 0) 72) (of-length 13 m (status-at m))
-    (cond (eqb (getD m 4 0) 65) (of-length 29 m (add-at m))
-    (cond (eqb (getD m 4 0) 69) (of-length 22 m (taken-at execute m))
-    (cond (eqb (getD m 4 0) 88) (of-length 13 m (taken-at cancel m))
+    (cond (eqb (letter-of m) 84) (of-length 5 m (Ok second))
+    (cond (eqb (letter-of m) 83) (of-length 6 m (event-at m))
+    (cond (eqb (letter-of m) 72) (of-length 13 m (status-at m))
+    (cond (eqb (letter-of m) 65) (of-length 29 m (add-at m))
+    (cond (eqb (letter-of m) 69) (of-length 22 m (off-at execute m))
+    (cond (eqb (letter-of m) 88) (of-length 13 m (off-at cancel m))
     (Ok other)))))))
 
 -- in a snapshot E and X have their own cause before any other, and G is the End
 unfoldable pub snapshot-message : List ℕ → Result Told Cause
 snapshot-message m =
     cond (ltb (length m) 5) (Err Length)
-    (cond (eqb (getD m 4 0) 69 || eqb (getD m 4 0) 88) (Err InSnapshot)
-    (cond (eqb (getD m 4 0) 71) (of-length 9 m (end-at m))
+    (cond (eqb (letter-of m) 69 || eqb (letter-of m) 88) (Err InSnapshot)
+    (cond (eqb (letter-of m) 71) (of-length 9 m (end-at m))
     (through said (feed-message m))))
 
 -- an order without the proof that it is within the limits
@@ -134,6 +133,6 @@ saying (message.Execute reference shares) = execute reference shares
 saying (message.Cancel reference shares) = cancel reference shares
 saying message.Other = other
 
-abbrev pub telling : Entry → Told
-telling (entry.Message m) = said (saying m)
-telling (entry.End next) = end next
+abbrev pub telling : SnapshotMessage → Told
+telling (there.Message m) = said (saying m)
+telling (there.End next) = end next

@@ -18,6 +18,7 @@ use Rattle.wire.specs.declared.packet.Packet.the-variants as packet
 use Rattle.wire.specs.declared.packet.Messages.{Messages}
 use Rattle.wire.specs.declared.packet.Numbered.{Numbered}
 use Rattle.wire.specs.Numbers.{most16, most32, be16, be32}
+use Rattle.wire.specs.Answers.{or-else}
 use Rattle.wire.specs.Frames.{front-length}
 use Rattle.wire.specs.Names.{session-of}
 
@@ -42,8 +43,7 @@ unpacked (suc n) bytes =
     elim (message-length bytes) [ None ↦ None | Some k ↦ mapped (λ ms. take k (drop 2 bytes) ∷ ms) (unpacked n (drop (2 + k) bytes)) ]
 
 abbrev pub laid-out : {X : Type 0} → (X → Sent) → Option X → Result Sent Refusal
-laid-out say None = Err PacketLayout
-laid-out say (Some x) = Ok (say x)
+laid-out say o = or-else PacketLayout say o
 
 -- what stands behind a header: a heartbeat has count 0 and its session to the end
 abbrev pub behind : ℕ → ℕ → List ℕ → Result Sent Refusal
@@ -75,7 +75,3 @@ Walked s (Some m) t = (left-in s ≡ m .bytes .now ∷ left-in t) × (m .number 
 abbrev pub sent : Packet → Sent
 sent (packet.Heartbeat next session) = heartbeat next session
 sent (packet.Data m) = messages (m .number) (left-in m)
-
-abbrev pub sending : Result Packet Refusal → Result Sent Refusal
-sending (Ok p) = Ok (sent p)
-sending (Err refusal) = Err refusal

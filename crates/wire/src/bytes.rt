@@ -5,6 +5,9 @@ ghost use lib.ListN.{length};
 ghost use Rattle.wire.specs.Frames.{front-length};
 ghost use Rattle.wire.specs.Numbers.{be16 as bigEndian16, be32 as bigEndian32, be64 as bigEndian64};
 
+// The largest 4-byte integer of the feed.
+pub(crate) const MOST: u32 = 2_147_483_647;
+
 pub(crate) fn be16(bytes: &[u8], at: usize) -> u16
     requires { ⌜ at + 2 ≤ length (now bytes) ⌝ }
     ensures { λ r. ⌜ r ≡ bigEndian16 (now (bytes .entry)) at ⌝ }

@@ -7,8 +7,8 @@ mod session;
 mod symbol;
 
 pub use bytes::front_length;
-pub use message::Entry;
 pub use message::Message;
+pub use message::SnapshotMessage;
 pub use order::Order;
 pub use order::OrderRow;
 pub use order::OrderRowPartialEq;

@@ -2,9 +2,11 @@
 ghost use mathlib.Core.Path.{_≡_};
 ghost use Prim.Native.Nat.{ℕ, _<_, _≤_};
 ghost use lib.ListN.{length};
-ghost use Rattle.wire.specs.Messages.{feed-message, snapshot-message, saying, telling, through, of-length, event-at, status-at, add-at, taken-at, end-at, taken-fields, execute, cancel};
+ghost use Rattle.wire.specs.Messages.{feed-message, snapshot-message, saying, telling, of-length, event-at, status-at, add-at, off-at, end-at, shares-off, execute, cancel};
+ghost use Rattle.wire.specs.Answers.{through};
 ghost use Rattle.wire.specs.Messages as said;
 ghost use Rattle.std.specs.declared.result.Result.the-variants.{Ok};
+use crate::bytes::MOST;
 use crate::bytes::be32;
 use crate::bytes::be64;
 use crate::order::Order;
@@ -18,12 +20,17 @@ use codes::Status;
 // A message of the feed.
 #[derive(Clone, Copy)]
 pub enum Message {
-    // the time, which is not read
+    // T
     Second,
+    // S
     Event(EventCode),
+    // H
     StockStatus { symbol: Symbol, status: Status },
+    // A
     Add(Order),
+    // E
     Execute { reference: u32, shares: u32 },
+    // X
     Cancel { reference: u32, shares: u32 },
     // any other letter: it changes nothing
     Other,
@@ -31,13 +38,11 @@ pub enum Message {
 
 // A message of a snapshot.
 #[derive(Clone, Copy)]
-pub enum Entry {
+pub enum SnapshotMessage {
     Message(Message),
-    // the snapshot is complete, and `next` is the number of the message that follows it
+    // G: the snapshot is complete, and `next` is the number of the message that follows it
     End { next: u32 },
 }
-
-const MOST: u32 = 2_147_483_647;
 
 impl Message {
     // The message that the bytes are in the feed, or the first cause that they show by themselves.
@@ -54,6 +59,8 @@ impl Message {
             'A' => add(bytes),
             'E' => execution(bytes),
             'X' => cancellation(bytes),
+            // the End message, which the feed does not have
+            'G' => Ok(Message::Other),
             _ => Ok(Message::Other),
         }
     }
@@ -124,33 +131,33 @@ fn add(bytes: &[u8]) -> Result<Message, Cause>
 }
 
 fn execution(bytes: &[u8]) -> Result<Message, Cause>
-    ensures { λ r. ⌜ through saying r ≡ of-length 22 (now (bytes .entry)) (taken-at execute (now (bytes .entry))) ⌝ }
+    ensures { λ r. ⌜ through saying r ≡ of-length 22 (now (bytes .entry)) (off-at execute (now (bytes .entry))) ⌝ }
 {
     if bytes.len() != 22 {
         return Err(Cause::Length);
     }
-    match taken(bytes) {
+    match shares_off(bytes) {
         Some((reference, shares)) => Ok(Message::Execute { reference, shares }),
         None => Err(Cause::Field),
     }
 }
 
 fn cancellation(bytes: &[u8]) -> Result<Message, Cause>
-    ensures { λ r. ⌜ through saying r ≡ of-length 13 (now (bytes .entry)) (taken-at cancel (now (bytes .entry))) ⌝ }
+    ensures { λ r. ⌜ through saying r ≡ of-length 13 (now (bytes .entry)) (off-at cancel (now (bytes .entry))) ⌝ }
 {
     if bytes.len() != 13 {
         return Err(Cause::Length);
     }
-    match taken(bytes) {
+    match shares_off(bytes) {
         Some((reference, shares)) => Ok(Message::Cancel { reference, shares }),
         None => Err(Cause::Field),
     }
 }
 
 // The reference and the shares of an execution or a cancel.
-fn taken(bytes: &[u8]) -> Option<(u32, u32)>
+fn shares_off(bytes: &[u8]) -> Option<(u32, u32)>
     requires { ⌜ 13 ≤ length (now bytes) ⌝ }
-    ensures { λ r. ⌜ r ≡ taken-fields (now (bytes .entry)) ⌝ }
+    ensures { λ r. ⌜ r ≡ shares-off (now (bytes .entry)) ⌝ }
 {
     let reference = be32(bytes, 5);
     let shares = be32(bytes, 9);
@@ -160,9 +167,9 @@ fn taken(bytes: &[u8]) -> Option<(u32, u32)>
     Some((reference, shares))
 }
 
-impl Entry {
+impl SnapshotMessage {
     // The message that the bytes are in a snapshot, or the first cause that they show by themselves.
-    pub fn read(bytes: &[u8]) -> Result<Entry, Cause>
+    pub fn read(bytes: &[u8]) -> Result<SnapshotMessage, Cause>
         ensures { λ r. ⌜ through telling r ≡ snapshot-message (now (bytes .entry)) ⌝ }
     {
         if bytes.len() < 5 {
@@ -171,12 +178,12 @@ impl Entry {
         match bytes[4] as char {
             'E' | 'X' => Err(Cause::InSnapshot),
             'G' => end(bytes),
-            _ => Ok(Entry::Message(Message::read(bytes)?)),
+            _ => Ok(SnapshotMessage::Message(Message::read(bytes)?)),
         }
     }
 }
 
-fn end(bytes: &[u8]) -> Result<Entry, Cause>
+fn end(bytes: &[u8]) -> Result<SnapshotMessage, Cause>
     ensures { λ r. ⌜ through telling r ≡ of-length 9 (now (bytes .entry)) (end-at (now (bytes .entry))) ⌝ }
 {
     if bytes.len() != 9 {
@@ -186,5 +193,5 @@ fn end(bytes: &[u8]) -> Result<Entry, Cause>
     if next < 1 || next > MOST {
         return Err(Cause::Field);
     }
-    Ok(Entry::End { next })
+    Ok(SnapshotMessage::End { next })
 }

@@ -2,16 +2,16 @@
 ghost use mathlib.Core.Path.{_≡_};
 ghost use Rattle.std.specs.Options.{isSome};
 ghost use mathlib.Core.Bool.{true};
+ghost use Rattle.wire.specs.Answers.{through};
 ghost use Rattle.wire.specs.Names.{session-of};
-ghost use Rattle.wire.specs.Packets.{packet-of, sending, well-numbered, laid-out, unpacked, Walked};
+ghost use Rattle.wire.specs.Packets.{packet-of, sent, well-numbered, laid-out, unpacked, Walked};
 ghost use Rattle.wire.specs.Packets as Sent;
+use crate::bytes::MOST;
 use crate::bytes::be16;
 use crate::bytes::be32;
 use crate::bytes::front_length;
 use crate::session::Session;
 use codes::Refusal;
-
-const MOST: u32 = 2_147_483_647;
 
 const MOST_COUNT: u16 = 32_767;
 
@@ -40,7 +40,7 @@ pub struct Numbered<'a> {
 
 impl<'a> Packet<'a> {
     pub fn read(bytes: &'a [u8]) -> Result<Packet<'a>, Refusal>
-        ensures { λ r. ⌜ sending r ≡ packet-of (now (bytes .entry)) ⌝ }
+        ensures { λ r. ⌜ through sent r ≡ packet-of (now (bytes .entry)) ⌝ }
     {
         if bytes.len() < 6 {
             return Err(Refusal::ShortPacket);
@@ -70,7 +70,7 @@ fn well_numbered(number: u32, count: u16) -> bool
 }
 
 fn heartbeat(next: u32, rest: &[u8]) -> Result<Packet<'_>, Refusal>
-    ensures { λ r. ⌜ sending r ≡ laid-out (Sent.heartbeat next) (session-of (now (rest .entry))) ⌝ }
+    ensures { λ r. ⌜ through sent r ≡ laid-out (Sent.heartbeat next) (session-of (now (rest .entry))) ⌝ }
 {
     match Session::read(rest) {
         Some(session) => Ok(Packet::Heartbeat { next, session }),
@@ -80,7 +80,7 @@ fn heartbeat(next: u32, rest: &[u8]) -> Result<Packet<'_>, Refusal>
 
 fn data(number: u32, count: u16, rest: &[u8]) -> Result<Packet<'_>, Refusal>
     requires { ⌜ well-numbered number count ≡ true ⌝ }
-    ensures { λ r. ⌜ sending r ≡ laid-out (Sent.messages number) (unpacked count (now (rest .entry))) ⌝ }
+    ensures { λ r. ⌜ through sent r ≡ laid-out (Sent.messages number) (unpacked count (now (rest .entry))) ⌝ }
 {
     if !filled(rest, count) {
         return Err(Refusal::PacketLayout);

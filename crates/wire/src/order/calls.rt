@@ -4,8 +4,7 @@ ghost use Rattle.std.specs.Options.{mapped};
 ghost use Rattle.wire.specs.Messages.{row-of, checked};
 use super::Order;
 use super::OrderRow;
-
-const MOST: u32 = 2_147_483_647;
+use crate::bytes::MOST;
 
 const MOST_PRICE: u64 = 1_000_000_000_000_000;
 

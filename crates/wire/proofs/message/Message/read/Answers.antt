@@ -34,3 +34,7 @@ returns-in-X c = grind (arith, tells)
 pub returns-in-rest : need.returns-in-rest
 unfolding feed-message
 returns-in-rest c = grind (arith, tells)
+
+pub returns-in-G : need.returns-in-G
+unfolding feed-message
+returns-in-G c = grind (arith, tells)

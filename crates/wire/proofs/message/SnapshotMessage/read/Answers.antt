@@ -1,7 +1,7 @@
 use native.Mathlib.Omega.{arith}
 use Rattle.std.proofs.shelf.Ways.{tells}
 use Rattle.wire.specs.Messages.{snapshot-message}
-use Rattle.wire.proofs.message.Entry.read.Needs as need
+use Rattle.wire.proofs.message.SnapshotMessage.read.Needs as need
 
 pub returns-then-bytes-lt5 : need.returns-then-bytes-lt5
 unfolding snapshot-message
