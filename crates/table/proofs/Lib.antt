@@ -1,0 +1,4 @@
+pub mod Laws
+mod Searches
+mod Seats
+mod Shifts
