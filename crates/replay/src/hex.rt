@@ -46,3 +46,12 @@ pub(crate) fn decode(heap: Global, text: &[u8]) -> Result<Option<Vec<u8>>, Alloc
         Ok(None)
     }
 }
+
+// Bytes in pairs of hexadecimal digits.
+pub(crate) fn encode(heap: Global, bytes: &[u8]) -> Result<String, AllocError> {
+    let mut digits = String::new(heap);
+    for b in bytes {
+        digits.push_str(format!(heap, "{b:02x}")?.as_str())?;
+    }
+    Ok(digits)
+}

@@ -3,6 +3,7 @@ ghost use mathlib.Core.Path.{_≡_};
 ghost use mathlib.Core.Bool.{true};
 ghost use Prim.Native.Nat.{_<_, _≤_};
 ghost use lib.ListN.{length};
+use crate::hex;
 use codes::Refusal;
 use codes::Status;
 use session::Opened;
@@ -85,8 +86,12 @@ fn there(rt: &LibcRuntime, bytes: &[u8]) -> io::Result<bool> {
     }
 }
 
+pub(crate) fn bad_line(rt: &LibcRuntime) -> io::Result<()> {
+    println!(rt, "bad line")
+}
+
 // A refusal's number, with the cause that it names.
-fn refused(rt: &LibcRuntime, refusal: Refusal) -> io::Result<()> {
+pub(crate) fn refused(rt: &LibcRuntime, refusal: Refusal) -> io::Result<()> {
     let number = refusal.number();
     match refusal {
         Refusal::SnapshotStopped(cause) => println!(rt, "refused {number} {}", cause.letter()),
@@ -131,16 +136,13 @@ fn add(rt: &LibcRuntime, order: Order) -> io::Result<()> {
 fn text(heap: Global, name: &[u8]) -> Result<String, AllocError> {
     let end = trimmed(name);
     let front = &name[0..end];
+    if !plain(front) {
+        let digits = hex::encode(heap, name)?;
+        return format!(heap, "0x{digits}");
+    }
     let mut shown = String::new(heap);
-    if plain(front) {
-        for b in front {
-            shown.push(*b as char)?;
-        }
-    } else {
-        shown.push_str("0x")?;
-        for b in name {
-            shown.push_str(format!(heap, "{b:02x}")?.as_str())?;
-        }
+    for b in front {
+        shown.push(*b as char)?;
     }
     Ok(shown)
 }
