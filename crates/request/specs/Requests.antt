@@ -12,6 +12,7 @@ use Rattle.std.specs.declared.result.Result.{Result}
 use Rattle.std.specs.declared.result.Result.the-variants.{Ok, Err}
 use Rattle.codes.specs.declared.refusal.Refusal.{Refusal}
 use Rattle.codes.specs.declared.refusal.Refusal.the-variants.{NoRequest}
+use Rattle.wire.specs.Answers.{through, or-else}
 use Rattle.wire.specs.Numbers.{most32, be16}
 use Rattle.wire.specs.Names.{session-of}
 use Rattle.wire.specs.Messages.{part}
@@ -57,8 +58,7 @@ abbrev pub login-of : List ℕ → Option Login
 login-of m = cond (eqb (length m) 39) (login-by m (session-of (part 19 10 m)) (number-of (part 29 10 m))) None
 
 abbrev pub as-login : Option Login → Result Request Refusal
-as-login None = Err NoRequest
-as-login (Some l) = Ok (request.Login l)
+as-login = or-else NoRequest request.Login
 
 abbrev pub alone-as : Request → List ℕ → Result Request Refusal
 alone-as r m = cond (eqb (length m) 3) (Ok r) (Err NoRequest)
@@ -112,5 +112,4 @@ pub record Exactly (bytes : List ℕ) (answer : Result Request Refusal) : Type 0
 
 -- what an opening sends, without its ticket
 abbrev pub sent : Result (Ticket × List ℕ) Refusal → Result (List ℕ) Refusal
-sent (Ok opened) = Ok (opened .1)
-sent (Err refusal) = Err refusal
+sent = through (λ opened. opened .1)

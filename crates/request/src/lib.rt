@@ -4,5 +4,7 @@ mod request;
 mod ticket;
 
 pub use login::Login;
+pub use login::LoginBytes;
 pub use request::Request;
+pub use ticket::LetterBytes;
 pub use ticket::Ticket;

@@ -9,6 +9,9 @@ use session::read_number;
 use session::write_number;
 use wire::Session;
 
+// The bytes of a Login Request.
+pub type LoginBytes = [u8; 39];
+
 #[derive(Clone, Copy)]
 pub struct Login {
     pub user: [u8; 6],
@@ -42,7 +45,7 @@ impl Login {
     }
 
     // The bytes of a login. Only the opening of a session writes them.
-    pub(crate) fn write(&self) -> Result<[u8; 39], Refusal>
+    pub(crate) fn write(&self) -> Result<LoginBytes, Refusal>
         ensures { λ r. ⌜ r ≡ login-written (now (self .entry)) ⌝ }
     {
         let number = write_number(self.number)?;
