@@ -1,4 +1,6 @@
 //! The venue's displayed orders, one message at a time, over two tables with lent slots.
+#![tactic(auto)]
+
 mod book;
 mod laws;
 mod rows;

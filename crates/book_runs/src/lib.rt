@@ -1,3 +1,5 @@
 //! The venue's worked sequences on a book, with the rows and states after each step.
+#![tactic(auto)]
+
 mod sequences;
 mod states;

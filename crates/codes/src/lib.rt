@@ -1,4 +1,6 @@
 // The enums that answers are made of, each with the number or the letter of its cases.
+#![tactic(auto)]
+
 mod cause;
 mod event;
 mod lamp;

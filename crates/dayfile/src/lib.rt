@@ -1,4 +1,6 @@
 // A source of missing messages over the bytes of a day file.
+#![tactic(auto)]
+
 mod block;
 mod file;
 mod look;

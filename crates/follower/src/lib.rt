@@ -1,4 +1,6 @@
 //! The follower: every call on it, with the promise in its contract.
+#![tactic(auto)]
+
 mod call;
 mod follower;
 mod marks;

@@ -1,4 +1,6 @@
 //! A follower through whole runs of calls.
+#![tactic(auto)]
+
 #[cfg(test)]
 mod causes;
 #[cfg(test)]

@@ -1,4 +1,6 @@
 // The plain follower, and the promise over all its histories.
+#![tactic(auto)]
+
 mod answers;
 mod laws;
 

@@ -1,4 +1,6 @@
 // The known results of the rules, each theorem the contract of a function that does nothing.
+#![tactic(auto)]
+
 ghost use Rattle.known_results.specs.Table.{KnownResults};
 ghost use Rattle.known_results.specs.Joins.{GapAmongHeld};
 

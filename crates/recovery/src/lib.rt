@@ -1,4 +1,6 @@
 // A recovery session as a source of missing messages.
+#![tactic(auto)]
+
 mod recovery;
 
 pub use recovery::Recovery;

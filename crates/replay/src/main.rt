@@ -1,4 +1,6 @@
 // Reads a session script on standard input, a call to a line, and prints what each line says.
+#![tactic(auto)]
+
 mod client;
 mod hex;
 mod show;

@@ -1,4 +1,6 @@
 // Reads a script on standard input, a call to a line, and prints what each call answered.
+#![tactic(auto)]
+
 mod calls;
 mod captures;
 mod client;

@@ -1,4 +1,6 @@
 // What a client of the recovery and snapshot services sends, and the ticket of an open session.
+#![tactic(auto)]
+
 mod login;
 mod request;
 mod ticket;

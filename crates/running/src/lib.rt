@@ -1,4 +1,6 @@
 //! The book and the messages that are held for it: each message of the feed in its turn.
+#![tactic(auto)]
+
 mod moves;
 mod rows;
 mod runner;

@@ -1,4 +1,6 @@
 // The bytes of a recovery or snapshot session: its messages, its opening, and number fields.
+#![tactic(auto)]
+
 mod carried;
 mod field;
 mod messages;

@@ -1,4 +1,6 @@
 // Sources of missing messages, and the pair of any two.
+#![tactic(auto)]
+
 mod pair;
 mod source;
 

@@ -1,4 +1,6 @@
 //! Recovery sessions and pairs of them, asked for numbers in turn.
+#![tactic(auto)]
+
 #[cfg(test)]
 mod calls;
 #[cfg(test)]

@@ -1,4 +1,6 @@
 //! A table of rows in the order of their keys, over slots that its maker lends.
+#![tactic(auto)]
+
 ghost use Rattle.std.specs.Prelude.{◌≡◌, ◌+◌, ◌-◌, ◌<◌, ◌≤◌, true, false, [], ◌++◌, length, take, drop, is_some, is_ok, if◌then◌else◌, slice_set};
 ghost use Rattle.std.specs.declared.cmp.Ordering.{Ordering as Answer};
 ghost use Rattle.std.proofs.Math.Seq.{paste};

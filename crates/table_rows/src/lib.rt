@@ -1,4 +1,6 @@
 //! One row in the order of its number and in the order of its name: two kinds of rows, and two tables that hold them at once.
+#![tactic(auto)]
+
 ghost use Rattle.table.specs.Tables.{Kept};
 ghost use Rattle.table_rows.specs.Keys.{number_of, name_of, by_number, by_name};
 ghost use Rattle.std.proofs.Common.{rules};

@@ -1,4 +1,6 @@
 // The venue's bytes: integers, symbols and session names, messages and packets.
+#![tactic(auto)]
+
 mod bytes;
 mod message;
 mod order;

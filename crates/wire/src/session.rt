@@ -4,6 +4,9 @@ ghost use Rattle.wire.specs.Names.{session_of};
 ghost use Rattle.std.specs.Cmp.Rules.{comparing};
 ghost use Rattle.std.proofs.Common.{rules};
 ghost use Rattle.std.specs.Cmp as Keys;
+ghost use Rattle.std.specs.Cmp.Lexicographic.{pointwise};
+ghost use Rattle.std.specs.Ordering.{on};
+ghost use Rattle.std.specs.Prelude.{nat_eq};
 
 // The bytes of a session's name.
 pub type SessionBytes = [u8; 10];
@@ -35,11 +38,14 @@ impl Session {
 }
 
 impl PartialEq for Session {
-    ghost equals = { λ a b r. Decides r (a ≡ b) };
+    ghost eq = { on (λ a. a.bytes) (pointwise nat_eq) };
 
     ghost laws = { Keys.partial_equiv_from_equiv (Prim.search (comparing, rules)) };
 
-    fn eq(&self, other: &Session) -> bool {
+    fn eq(&self, other: &Session) -> bool
+        ensures bytes { result ≡ pointwise nat_eq self.now.bytes other.now.bytes }
+        ensures decides { Decides result (self.now ≡ other.now) }
+    {
         let Session { bytes } = self;
         *bytes == other.bytes
     }

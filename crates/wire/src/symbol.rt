@@ -4,6 +4,9 @@ ghost use Rattle.wire.specs.Names.{symbol_of};
 ghost use Rattle.std.specs.Cmp.Rules.{comparing};
 ghost use Rattle.std.proofs.Common.{rules};
 ghost use Rattle.std.specs.Cmp as Keys;
+ghost use Rattle.std.specs.Cmp.Lexicographic.{pointwise};
+ghost use Rattle.std.specs.Ordering.{on};
+ghost use Rattle.std.specs.Prelude.{nat_eq};
 
 // The bytes of a symbol.
 pub type SymbolBytes = [u8; 6];
@@ -35,11 +38,14 @@ impl Symbol {
 }
 
 impl PartialEq for Symbol {
-    ghost equals = { λ a b r. Decides r (a ≡ b) };
+    ghost eq = { on (λ a. a.bytes) (pointwise nat_eq) };
 
     ghost laws = { Keys.partial_equiv_from_equiv (Prim.search (comparing, rules)) };
 
-    fn eq(&self, other: &Symbol) -> bool {
+    fn eq(&self, other: &Symbol) -> bool
+        ensures bytes { result ≡ pointwise nat_eq self.now.bytes other.now.bytes }
+        ensures decides { Decides result (self.now ≡ other.now) }
+    {
         let Symbol { bytes } = self;
         *bytes == other.bytes
     }

@@ -1,4 +1,6 @@
 // Worked histories of the plain follower, each the contract of a function that does nothing.
+#![tactic(auto)]
+
 ghost use Rattle.worked_histories.specs.Histories.{LateJoin, LossRepaired, RedNeeded, ForeignRefused, StopsBeforeGreen, RepeatsAndDrops};
 
 /// A late join by snapshot, with held messages below, at and above its End's number, turns green, and the questions

@@ -1,13 +1,13 @@
-use Rattle.std.proofs.Common.{◌≡◌, suc, ◌+◌, ◌-◌, drop, is_some, sym, refl, ap, ◌∙◌, arith}
+use Rattle.std.proofs.Common.{◌≡◌, suc, ◌+◌, ◌-◌, drop, is_some, sym, ap, ◌∙◌, arith}
 use Rattle.std.proofs.lemmas.List.{take_rest}
 use Rattle.wire.specs.Packets.{unpacked}
 use Rattle.wire.proofs.Steps.{unpacked_step, some_mapped, none_left}
 use Rattle.wire.proofs.packet.filled.Goals as goal
 
-pub returns-in-default : goal.returns-in-default
-returns-in-default c =
+pub returns-in_default : goal.returns-in_default
+returns-in_default c =
     let more : c.args.count - c.loop-i.i ≡ suc (c.args.count - (c.loop-i.i + 1)) = omega arith in
-    sym (ap is_some (unpacked_step _ _ c.loop-i.rest.now _ c.in-default.ensures more)) ∙ c.loop-i.invariant
+    sym (ap is_some (unpacked_step _ _ c.loop-i.rest.now _ c.in_default.ensures more)) ∙ c.loop-i.invariant
 
 pub loop-i-preserved : goal.loop-i-preserved
 loop-i-preserved c =
@@ -19,4 +19,4 @@ loop-i-preserved c =
 pub returns : goal.returns
 returns c =
     let none : c.args.count - c.loop-i.i ≡ 0 = omega arith in
-    c.is-empty.ensures ∙ sym (none_left _ c.loop-i.rest.now none) ∙ c.loop-i.invariant
+    c.is_empty.ensures ∙ sym (none_left _ c.loop-i.rest.now none) ∙ c.loop-i.invariant

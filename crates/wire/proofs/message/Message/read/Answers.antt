@@ -31,9 +31,9 @@ pub returns-in-X : goal.returns-in-X
 unfolding feed_message
 returns-in-X c = grind (arith, nat_tests)
 
-pub returns-in-default : goal.returns-in-default
+pub returns-in_default : goal.returns-in_default
 unfolding feed_message
-returns-in-default c = grind (arith, nat_tests)
+returns-in_default c = grind (arith, nat_tests)
 
 pub returns-in-G : goal.returns-in-G
 unfolding feed_message

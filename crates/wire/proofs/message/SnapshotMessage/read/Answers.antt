@@ -7,9 +7,9 @@ pub returns-then-bytes-lt5 : goal.returns-then-bytes-lt5
 unfolding snapshot_message
 returns-then-bytes-lt5 c = grind (arith, nat_tests)
 
-pub returns-in-err-read : goal.returns-in-err-read
+pub returns-in_err-read-in_default : goal.returns-in_err-read-in_default
 unfolding snapshot_message
-returns-in-err-read c = grind (arith, nat_tests)
+returns-in_err-read-in_default c = grind (arith, nat_tests)
 
 pub returns-in-E : goal.returns-in-E
 unfolding snapshot_message
@@ -19,6 +19,6 @@ pub returns-in-G : goal.returns-in-G
 unfolding snapshot_message
 returns-in-G c = grind (arith, nat_tests)
 
-pub returns-in-ok-read : goal.returns-in-ok-read
+pub returns-in_ok-read-in_default : goal.returns-in_ok-read-in_default
 unfolding snapshot_message
-returns-in-ok-read c = grind (arith, nat_tests)
+returns-in_ok-read-in_default c = grind (arith, nat_tests)

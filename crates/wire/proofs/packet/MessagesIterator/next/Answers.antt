@@ -19,11 +19,11 @@ returns-then-self-eq0 c =
       goes = search rules;
     }
 
-pub returns-in-default : goal.returns-in-default
-returns-in-default c =
+pub returns-in_default : goal.returns-in_default
+returns-in_default c =
     let s = c.args.self.now in
     let more : s.left ≡ suc (s.left - 1) = omega arith in
-    record { steps = (walked_step s.left (s.left - 1) s.number s.bytes.now _ c.in-default.ensures more (omega arith), refl); goes = search rules }
+    record { steps = (walked_step s.left (s.left - 1) s.number s.bytes.now _ c.in_default.ensures more (omega arith), refl); goes = search rules }
 
 pub returns : goal.returns
 returns c =

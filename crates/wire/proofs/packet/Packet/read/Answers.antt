@@ -1,4 +1,4 @@
-use Rattle.std.proofs.Common.{◌≡◌, ℕ, ◌-◌, ◌≤◌, cond, eqb, List, length, take, drop, sym, refl, ap, ◌∙◌, arith}
+use Rattle.std.proofs.Common.{◌≡◌, ℕ, ◌-◌, ◌≤◌, List, length, take, drop, sym, ap, ◌∙◌, arith}
 use Rattle.std.proofs.lemmas.List.{take_rest}
 use Rattle.std.proofs.lemmas.Bool.{cond-true, cond-false, lt-ltb, le-ltb, eq-eqb, ne_eqb}
 use Rattle.wire.specs.Numbers.{be16, be32}
@@ -16,19 +16,19 @@ pub returns-then-bytes-lt6 : goal.returns-then-bytes-lt6
 unfolding packet_of
 returns-then-bytes-lt6 c = sym (cond-true _ _ _ (lt-ltb (length c.args.bytes.now) 6 c.if-bytes-lt6.true))
 
-pub returns-then-not-well-numbered : goal.returns-then-not-well-numbered
-returns-then-not-well-numbered c =
-    sym (cond-false _ _ _ (sym c.well_numbered.ensures ∙ c.if-not-well-numbered.true))
+pub returns-then-not-well_numbered : goal.returns-then-not-well_numbered
+returns-then-not-well_numbered c =
+    sym (cond-false _ _ _ (sym c.well_numbered.ensures ∙ c.if-not-well_numbered.true))
     ∙ headed c.args.bytes.now _ _ (omega arith) c.be32-number.ensures c.be16-count.ensures
 
 pub returns-then-count-eq0 : goal.returns-then-count-eq0
 returns-then-count-eq0 c =
     c.heartbeat.ensures ∙ sym (cond-true _ _ _ (eq-eqb _ 0 c.if-count-eq0.true))
-    ∙ sym (cond-true _ _ _ (sym c.well_numbered.ensures ∙ c.if-not-well-numbered.false))
+    ∙ sym (cond-true _ _ _ (sym c.well_numbered.ensures ∙ c.if-not-well_numbered.false))
     ∙ headed c.args.bytes.now _ _ (omega arith) c.be32-number.ensures c.be16-count.ensures
 
 pub returns-else-count-eq0 : goal.returns-else-count-eq0
 returns-else-count-eq0 c =
     c.data.ensures ∙ sym (cond-false _ _ _ (ne_eqb _ 0 c.if-count-eq0.false))
-    ∙ sym (cond-true _ _ _ (sym c.well_numbered.ensures ∙ c.if-not-well-numbered.false))
+    ∙ sym (cond-true _ _ _ (sym c.well_numbered.ensures ∙ c.if-not-well_numbered.false))
     ∙ headed c.args.bytes.now _ _ (omega arith) c.be32-number.ensures c.be16-count.ensures

@@ -4,7 +4,7 @@ use Rattle.wire.specs.declared.session.Session.{Session}
 use Rattle.wire.proofs.session.SessionPartialEq.eq.Goals as goal
 use Rattle.std.proofs.lemmas.Bool.Decides.{Decides-eqb}
 
-pub returns : goal.returns
-returns c =
+pub returns-clause-decides : goal.returns-clause-decides
+returns-clause-decides c =
     let d = slice_eq-Decides Decides-eqb _ _ _ c.eq.ensures in
     ((λ t. ap (λ bs. record { bytes = bs }) (d.0 t)), (λ e. d.1 (ap (λ (x : Session). x.bytes) e)))
