@@ -1,5 +1,5 @@
 -- The messages of a session, and its opening.
-use Rattle.std.specs.Prelude.{◌≡◌, ℕ, zero, suc, ◌+◌, ◌-◌, Bool, cond, ◌&&◌, ◌||◌, List, [], ◌∷◌, length, take, drop, Some, None, Option, ◌==◌, slice_index}
+use Rattle.std.specs.Prelude.{◌≡◌, ℕ, zero, suc, ◌+◌, ◌-◌, cond, ◌||◌, List, [], ◌∷◌, length, take, drop, Some, None, Option, ◌==◌, slice_index}
 use Rattle.wire.specs.declared.session.Session.{Session}
 use Rattle.session.specs.declared.messages.SessionMessage.{SessionMessage}
 use Rattle.session.specs.declared.messages.SessionMessages.{SessionMessages}

@@ -1,4 +1,4 @@
-use Rattle.std.proofs.Common.{◌≡◌, sym, ◌∙◌, arith}
+use Rattle.std.proofs.Common.{sym, ◌∙◌, arith}
 use Rattle.std.proofs.lemmas.List.{at_drop_all, drop_all}
 use Rattle.session.specs.Fields.{unpadded}
 use Rattle.session.proofs.Digits.{unpadded_at, unpadded_from}

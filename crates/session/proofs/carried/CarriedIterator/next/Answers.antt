@@ -1,4 +1,4 @@
-use Rattle.std.proofs.Common.{◌≡◌, sym, refl, ap, ◌∙◌, arith, rules}
+use Rattle.std.proofs.Common.{◌≡◌, sym, ap, ◌∙◌, rules}
 use Rattle.session.specs.Carried.{carried}
 use Rattle.session.proofs.Carrying.{carried_skip, carried_message, carried_small, carried_stray}
 use Rattle.session.proofs.carried.CarriedIterator.next.Goals as goal
@@ -8,20 +8,20 @@ loop-message-preserved c =
     let e = ap carried c.in-Some.ensures.steps ∙ carried_skip _ _ c.in-43.is in
     (c.loop-message.invariant.0, sym e ∙ c.loop-message.invariant.1, search rules)
 
-pub returns-then-not-is-message : goal.returns-then-not-is-message
-returns-then-not-is-message c =
-    let small = sym c.is-message.ensures ∙ c.if-not-is-message.true in
+pub returns-then-not-is_message : goal.returns-then-not-is_message
+returns-then-not-is_message c =
+    let small = sym c.is_message.ensures ∙ c.if-not-is_message.true in
     let e = ap carried c.in-Some.ensures.steps ∙ carried_small _ _ c.in-S.is small in
     record { steps = (sym c.loop-message.invariant.1 ∙ e, c.loop-message.invariant.0); goes = search rules }
 
 pub returns-in-S : goal.returns-in-S
 returns-in-S c =
-    let fits = sym c.is-message.ensures ∙ c.if-not-is-message.false in
+    let fits = sym c.is_message.ensures ∙ c.if-not-is_message.false in
     let e = ap carried c.in-Some.ensures.steps ∙ carried_message _ _ c.in-S.is fits in
     record { steps = sym c.loop-message.invariant.1 ∙ e; goes = search rules }
 
-pub returns-in-default-2 : goal.returns-in-default-2
-returns-in-default-2 c =
+pub returns-in_default-2 : goal.returns-in_default-2
+returns-in_default-2 c =
     let letter = c.in-Some.message.letter in
     let debug : letter ≡ 43 → ⊥ = search rules in
     let heartbeat : letter ≡ 72 → ⊥ = search rules in
@@ -32,4 +32,4 @@ returns-in-default-2 c =
 pub returns : goal.returns
 unfolding carried
 returns c =
-    record { steps = (sym c.loop-message.invariant.1 ∙ ap carried c.in-default.ensures.steps.0, c.loop-message.invariant.0); goes = search rules }
+    record { steps = (sym c.loop-message.invariant.1 ∙ ap carried c.in_default.ensures.steps.0, c.loop-message.invariant.0); goes = search rules }

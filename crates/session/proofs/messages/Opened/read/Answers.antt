@@ -1,4 +1,4 @@
-use Rattle.std.proofs.Common.{◌≡◌, sym, refl, ap, ◌∙◌, arith}
+use Rattle.std.proofs.Common.{sym, ap, ◌∙◌, arith}
 use Rattle.std.proofs.lemmas.Bool.Decides.{nat_tests}
 use Rattle.session.specs.Sessions.{opening}
 use Rattle.session.proofs.messages.Opened.read.Goals as goal
@@ -15,12 +15,12 @@ returns-in-A c =
     let e = sym (ap opening c.in-Some.ensures.steps) ∙ c.loop-message.invariant in
     grind (arith, nat_tests, e)
 
-pub returns-in-default-2 : goal.returns-in-default-2
+pub returns-in_default-2 : goal.returns-in_default-2
 unfolding opening
-returns-in-default-2 c =
+returns-in_default-2 c =
     let e = sym (ap opening c.in-Some.ensures.steps) ∙ c.loop-message.invariant in
     grind (arith, nat_tests, e)
 
 pub returns : goal.returns
 unfolding opening
-returns c = sym (ap opening c.in-default.ensures.steps.0) ∙ c.loop-message.invariant
+returns c = sym (ap opening c.in_default.ensures.steps.0) ∙ c.loop-message.invariant

@@ -1,11 +1,11 @@
 use Rattle.std.proofs.Common.{◌≡◌, ℕ, ◌+◌, ◌-◌, ◌∷◌, get_or, take, drop, sym, refl, ap, ◌∙◌, arith, rules}
 use Rattle.std.proofs.lemmas.List.{take_rest}
-use Rattle.session.specs.Sessions.{Framed, first_of, session_messages}
+use Rattle.session.specs.Sessions.{Framed, session_messages}
 use Rattle.session.proofs.Framing.{session_step}
 use Rattle.session.proofs.messages.SessionMessagesIterator.next.Goals as goal
 
-pub returns-in-default : goal.returns-in-default
-returns-in-default c = record { steps = (session_step c.args.self.now.bytes.now _ c.in-default.ensures, refl); goes = search rules }
+pub returns-in_default : goal.returns-in_default
+returns-in_default c = record { steps = (session_step c.args.self.now.bytes.now _ c.in_default.ensures, refl); goes = search rules }
 
 pub returns : goal.returns
 returns c =
