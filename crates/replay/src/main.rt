@@ -10,9 +10,10 @@ use std::io;
 use std::io::{BufRead, BufReader};
 
 fn main(rt: HostRuntime) -> io::Result<()> {
+    let input = BufReader::new(rt.alloc(), rt.stdin())?;
     let mut connection = Connection::Closed;
     let mut result = Ok(());
-    for line in BufReader::new(rt.alloc(), rt.stdin())?.lines(rt.alloc()) {
+    for line in input.lines(rt.alloc()) {
         let (next, done) = match line {
             Ok(line) => run(&rt, line.as_str(), connection),
             Err(error) => (connection, Err(error)),

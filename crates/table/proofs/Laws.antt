@@ -379,5 +379,5 @@ pub entries_fit : {X B : Type 0} (t : Table X B) → length (entries t) ≤ room
 entries_fit t = simp length-take (min-le_right t.used (room t))
 
 -- an order of the standard library is lawful
-pub total_lawful : {K : Type 0} {R : K → K → Ordering → Type 0} (o : IsTotalOrder R) → Lawful R
+pub total_lawful : {K : Type 0} {R : K → K → Ordering} (o : IsTotalOrder R) → Lawful R
 total_lawful o = record { turn = λ a b. o.antisymm b a; less = o.trans; equal = λ a b c p q. o.congr a b c p ∙ q }

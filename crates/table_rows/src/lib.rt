@@ -3,7 +3,6 @@
 
 ghost use Rattle.table.specs.Tables.{Kept};
 ghost use Rattle.table_rows.specs.Keys.{number_of, name_of, by_number, by_name};
-ghost use Rattle.std.proofs.Common.{rules};
 ghost use Rattle.std.specs.Cmp.{nat_cmp_total};
 ghost use Rattle.table.proofs.Laws.{total_lawful};
 ghost use Rattle.std.specs.Cmp.Lexicographic.{lists_total};
@@ -34,7 +33,7 @@ impl Row<ByNumber> for Named {
 
     ghost order = { by_number };
 
-    ghost lawful = { Prim.search rules };
+    ghost lawful = { total_lawful nat_cmp_total };
 
     fn key_of(&self) -> u32 {
         self.number

@@ -1,12 +1,9 @@
 // The name of a session.
-ghost use Rattle.std.specs.Prelude.{◌≡◌, Decides};
+ghost use Rattle.std.specs.Prelude.{◌≡◌, Decides, nat_eq};
 ghost use Rattle.wire.specs.Names.{session_of};
-ghost use Rattle.std.specs.Cmp.Rules.{comparing};
-ghost use Rattle.std.proofs.Common.{rules};
-ghost use Rattle.std.specs.Cmp as Keys;
-ghost use Rattle.std.specs.Cmp.Lexicographic.{pointwise};
+ghost use Rattle.std.specs.Cmp.{partial_equiv_from_equiv};
+ghost use Rattle.std.specs.Cmp.Lexicographic.{pointwise, on_texts_equal};
 ghost use Rattle.std.specs.Ordering.{on};
-ghost use Rattle.std.specs.Prelude.{nat_eq};
 
 // The bytes of a session's name.
 pub type SessionBytes = [u8; 10];
@@ -40,7 +37,7 @@ impl Session {
 impl PartialEq for Session {
     ghost eq = { on (λ a. a.bytes) (pointwise nat_eq) };
 
-    ghost laws = { Keys.partial_equiv_from_equiv (Prim.search (comparing, rules)) };
+    ghost laws = { partial_equiv_from_equiv (on_texts_equal (λ a. a.bytes)) };
 
     fn eq(&self, other: &Session) -> bool
         ensures bytes { result ≡ pointwise nat_eq self.now.bytes other.now.bytes }

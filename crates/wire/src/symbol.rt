@@ -1,12 +1,9 @@
 // The symbol of a stock.
-ghost use Rattle.std.specs.Prelude.{◌≡◌, Decides};
+ghost use Rattle.std.specs.Prelude.{◌≡◌, Decides, nat_eq};
 ghost use Rattle.wire.specs.Names.{symbol_of};
-ghost use Rattle.std.specs.Cmp.Rules.{comparing};
-ghost use Rattle.std.proofs.Common.{rules};
-ghost use Rattle.std.specs.Cmp as Keys;
-ghost use Rattle.std.specs.Cmp.Lexicographic.{pointwise};
+ghost use Rattle.std.specs.Cmp.{partial_equiv_from_equiv};
+ghost use Rattle.std.specs.Cmp.Lexicographic.{pointwise, on_texts_equal};
 ghost use Rattle.std.specs.Ordering.{on};
-ghost use Rattle.std.specs.Prelude.{nat_eq};
 
 // The bytes of a symbol.
 pub type SymbolBytes = [u8; 6];
@@ -40,7 +37,7 @@ impl Symbol {
 impl PartialEq for Symbol {
     ghost eq = { on (λ a. a.bytes) (pointwise nat_eq) };
 
-    ghost laws = { Keys.partial_equiv_from_equiv (Prim.search (comparing, rules)) };
+    ghost laws = { partial_equiv_from_equiv (on_texts_equal (λ a. a.bytes)) };
 
     fn eq(&self, other: &Symbol) -> bool
         ensures bytes { result ≡ pointwise nat_eq self.now.bytes other.now.bytes }

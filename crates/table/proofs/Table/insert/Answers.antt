@@ -7,9 +7,9 @@ use Rattle.table.proofs.Table.insert.Goals as goal
 pub returns : goal.returns
 returns g c =
     let n : length (entries c.args.self.now) ≡ c.args.self.now.used = length-take-le c.args.self.now.used (all_slots c.args.self.now) (omega arith) in
-    let k : room c.shift-in.new.self ≡ room c.args.self.now = ap length c.shift-in.ensures.slots ∙ opened-length (all_slots c.args.self.now) c.args.self.now.used c.args.i c.args.e (omega arith) (omega arith) in
+    let k : room c.shift_in.new.self ≡ room c.args.self.now = ap length c.shift_in.ensures.slots ∙ opened-length (all_slots c.args.self.now) c.args.self.now.used c.args.i c.args.e (omega arith) (omega arith) in
     record {
-      entries = ap (λ m. take m (all_slots c.shift-in.new.self)) c.shift-in.ensures.used ∙ ap (take (c.args.self.now.used + 1)) c.shift-in.ensures.slots ∙ opened (all_slots c.args.self.now) c.args.self.now.used c.args.i c.args.e (omega arith) (omega arith);
+      entries = ap (λ m. take m (all_slots c.shift_in.new.self)) c.shift_in.ensures.used ∙ ap (take (c.args.self.now.used + 1)) c.shift_in.ensures.slots ∙ opened (all_slots c.args.self.now) c.args.self.now.used c.args.i c.args.e (omega arith) (omega arith);
       room = k;
-      fits = omega (arith, k, c.shift-in.ensures.used);
+      fits = omega (arith, k, c.shift_in.ensures.used);
     }
