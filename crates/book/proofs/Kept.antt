@@ -1,11 +1,10 @@
 -- What every message keeps of a book.
-use Rattle.std.proofs.Common.{◌≡◌, ℕ, ◌+◌, ◌-◌, ◌<◌, ◌≤◌, Bool, true, false, cond, eqb, ltb, List, [], ◌∷◌, length, is_some, Some, None, Ok, Err, Option, Result, Ordering, Less, Equal, Greater, sym, refl, ap, ◌∙◌, subst, arith}
+use Rattle.std.proofs.Common.{◌≡◌, ℕ, ◌+◌, ◌<◌, ◌≤◌, Bool, true, false, cond, eqb, ltb, List, [], ◌∷◌, length, is_some, Some, None, Ok, Err, Option, Ordering, Less, Equal, Greater, refl, ap, ◌∙◌, subst, arith}
 use Rattle.std.specs.Cmp.{nat_cmp_total}
 use Rattle.std.specs.List.{AllByRecursion as All}
 use Rattle.std.proofs.ByRecursion.{All-weaker}
 use Rattle.std.proofs.lemmas.Bool.{ltb-true, ltb-false, eqb-false}
 use Rattle.std.proofs.lemmas.Bool.Decides.{nat_tests}
-use Rattle.codes.specs.declared.cause.Cause.{Cause}
 use Rattle.codes.specs.declared.cause.Cause.TheVariants.{LiveReference, NoStock, TableFull, TooManyShares}
 use Rattle.codes.specs.declared.status.Status.{Status}
 use Rattle.codes.specs.declared.status.Status.TheVariants as state
@@ -16,7 +15,7 @@ use Rattle.wire.specs.declared.order.OrderRow.{OrderRow}
 use Rattle.wire.specs.declared.symbol.Symbol.{Symbol}
 use Rattle.book.specs.declared.rows.Stock.{Stock}
 use Rattle.book.specs.Keys.{reference_of, name_of, by_number, by_name, within, all_within}
-use Rattle.book.specs.Plain.{Plain, Slots, empty, stock_of, order_of, with_event, with_stock, with_order, without_order, told, added, entered, less, reduced, taken_off, done}
+use Rattle.book.specs.Plain.{Plain, Slots, empty, stock_of, order_of, with_event, with_stock, with_order, without_order, told, added, less, reduced, done}
 use Rattle.book.specs.Stocks.{unheard, with_state}
 use Rattle.book.proofs.Fields.{Fine}
 use Rattle.book.proofs.Live.{found_again, found_within, placed_within, without_within}

@@ -1,17 +1,16 @@
 -- The laws of whole runs.
-use Rattle.std.proofs.Common.{◌≡◌, ℕ, zero, suc, ◌<◌, ◌≤◌, Bool, true, false, cond, ◌&&◌, List, [], ◌∷◌, length, get_or, Some, None, Ok, Err, Option, Result, sym, refl, ap, ◌∙◌, subst, arith}
+use Rattle.std.proofs.Common.{◌≡◌, ℕ, zero, suc, ◌<◌, ◌≤◌, true, List, [], ◌∷◌, length, get_or, Some, None, Ok, Err, Option, Result, sym, refl, subst, arith}
 use Rattle.std.specs.Ordering.{is_lt}
 use Rattle.std.specs.List.{AllByRecursion as All}
 use Rattle.std.proofs.lemmas.Bool.{and_parts}
 use Rattle.std.proofs.lemmas.Bool.Decides.{nat_tests}
 use Rattle.codes.specs.declared.cause.Cause.{Cause}
 use Rattle.wire.specs.Messages.{Said, second, other, Told, said, end, feed_message, snapshot_message}
-use Rattle.wire.specs.Answers.{through}
 use Rattle.wire.specs.Numbers.{most32, most_price}
 use Rattle.wire.specs.declared.order.OrderRow.{OrderRow}
 use Rattle.table.specs.Rows.{above, ordered}
 use Rattle.book.specs.Keys.{reference_of, by_number, within, all_within}
-use Rattle.book.specs.Plain.{Plain, Slots, empty, done, done_if_read, going, done_there, done_there_if_read, ran, ran_there}
+use Rattle.book.specs.Plain.{Plain, Slots, empty, done, done_if_read, going, done_there_if_read, ran, ran_there}
 use Rattle.book.specs.Runs.{run_on, run_there, and_then, unless_ended, Sound, RunsSound, SnapshotsSound, SecondsIdle, OthersIdle}
 use Rattle.book.proofs.Fields.{Fine, said_fine, told_fine}
 use Rattle.book.proofs.Kept.{Good, good_empty, good-done}

@@ -5,7 +5,6 @@ ghost use Rattle.book.specs.Stocks.{unheard, with_state};
 ghost use Rattle.std.specs.Cmp.{nat_cmp_total};
 ghost use Rattle.table.proofs.Laws.{total_lawful};
 ghost use Rattle.std.specs.Cmp.Lexicographic.{lists_total};
-ghost use Rattle.std.proofs.Common.{rules};
 
 use codes::{ShortSell, Status, Trading};
 use std::cmp::Ordering;
@@ -91,7 +90,7 @@ impl Row<ByReference> for OrderRow {
 
     ghost order = { by_number };
 
-    ghost lawful = { Prim.search rules };
+    ghost lawful = { total_lawful nat_cmp_total };
 
     fn key_of(&self) -> u32 {
         self.reference

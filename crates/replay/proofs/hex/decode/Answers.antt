@@ -2,7 +2,6 @@ use Rattle.std.proofs.Common.{◌≡◌, [], ◌∷◌, length, drop, Some, None
 use Rattle.std.proofs.lemmas.List.{append-nil, take_rest}
 use Rattle.std.proofs.lemmas.Slice.{pushed}
 use Rattle.std.proofs.lemmas.Bool.{eqb-true, eqb-false}
-use Rattle.std.specs.Option.{option_map}
 use Rattle.replay.specs.Hex.{bytes_of}
 use Rattle.replay.proofs.Pairs.{before, before_push, pair_step, odd_end, no_more}
 use Rattle.replay.proofs.hex.decode.Goals as goal

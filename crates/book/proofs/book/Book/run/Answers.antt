@@ -7,7 +7,7 @@ pub returns : goal.returns
 unfolding ran
 returns c =
     record {
-      answer = c.follow-read.ensures.answer ∙ ap (done_if_read (slots c.args.self.now) (plain c.args.self.now)) c.read.ensures;
-      stopped = c.follow-read.ensures.stopped;
-      slots = c.follow-read.ensures.slots;
+      answer = c.follow_read.ensures.answer ∙ ap (done_if_read (slots c.args.self.now) (plain c.args.self.now)) c.read.ensures;
+      stopped = c.follow_read.ensures.stopped;
+      slots = c.follow_read.ensures.slots;
     }

@@ -7,7 +7,7 @@ pub returns : goal.returns
 unfolding ran_there
 returns c =
     record {
-      answer = c.follow-snapshot.ensures.answer ∙ ap (done_there_if_read (slots c.args.self.now) (plain c.args.self.now)) c.read.ensures;
-      stopped = c.follow-snapshot.ensures.stopped;
-      slots = c.follow-snapshot.ensures.slots;
+      answer = c.follow_snapshot.ensures.answer ∙ ap (done_there_if_read (slots c.args.self.now) (plain c.args.self.now)) c.read.ensures;
+      stopped = c.follow_snapshot.ensures.stopped;
+      slots = c.follow_snapshot.ensures.slots;
     }
