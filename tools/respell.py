@@ -35,6 +35,10 @@ def declared(text):
     found = set()
     inside = False
     for line in text.split("\n"):
+        m = re.match(r"^(?: {2}| {4})(?:(?:abbrev|unfoldable|pub|ruleset)\s+)*([a-zA-Z][^\s:(){}]*)\s*:(?:\s|$)", line)
+        if m and not inside:
+            # a definition of a module in the file
+            found.add(m.group(1))
         m = re.match(r"^(?:(?:abbrev|unfoldable|pub|mutual)\s+)*(?:data|record)\s+([^\s:(){}]+)", line)
         if m:
             found.add(m.group(1))

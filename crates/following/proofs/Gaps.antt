@@ -2,7 +2,7 @@
 use Rattle.std.proofs.Common.{◌≡◌, ℕ, zero, suc, ◌+◌, ◌<◌, ◌≤◌, max, Bool, true, false, cond, eqb, ltb, leb, ◌⊎◌, List, [], ◌∷◌, length, is_some, Some, None, Ok, Err, Option, Result, Ordering, Less, Equal, Greater, sym, refl, ap, ◌∙◌, subst, inl, inr, ⊎_elim, arith, ltb-true, eqb-true}
 use borrow.Author.Tests.{both_ways}
 use Rattle.std.proofs.lemmas.Bool.{cases_order, cases_lt}
-use Rattle.std.specs.Cmp.{nat_cmp_total}
+use Rattle.std.specs.Cmp.{nat_cmp_is, nat_cmp_total}
 use Rattle.codes.specs.declared.cause.Cause.{Cause}
 use Rattle.codes.specs.declared.lamp.Lamp.TheVariants as lamp
 use Rattle.wire.specs.declared.session.Session.{Session}
@@ -56,7 +56,6 @@ use Rattle.following.proofs.Held.{ranked, held_later, not_held, ordered_not_held
 use Rattle.following.proofs.Shapes.{Shape}
 use Rattle.following.proofs.Histories.{Kept, always}
 use Rattle.following.proofs.Standing.{Tidy, tidy-kept}
-use Rattle.std.specs.Ordering.{nat_cmp}
 
 -- the number j was run already, or is held
 abbrev pub In : ℕ → Place → Type 0
@@ -65,7 +64,7 @@ In j (wanting b hs) = (j < b.wanted) ⊎ (is_held j hs ≡ true)
 In j (stopped n c) = Unit {0}
 
 equal_key : (a b : ℕ) → a ≡ b → by_number a b ≡ Equal
-equal_key a b e = sym (nat_cmp_total.says a b Equal e)
+equal_key a b e = sym (nat_cmp_is a b Equal e)
 
 held_now : (k : ℕ) (x : List ℕ) (hs : List Held) → is_held k (with_held k x hs) ≡ true
 held_now k x hs =

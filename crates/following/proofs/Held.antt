@@ -1,7 +1,7 @@
 -- Held messages in order, and those that are the day's.
 use Rattle.std.proofs.Common.{◌≡◌, ℕ, zero, suc, pred, ◌+◌, ◌<◌, ◌≤◌, max, Bool, true, false, cond, eqb, List, [], ◌∷◌, length, is_some, Some, None, Ordering, Less, Equal, Greater, sym, refl, ap, ◌∙◌, subst, arith, eqb-true}
 use borrow.Author.Tests.{eqb-false, both_ways}
-use Rattle.std.specs.Cmp.{nat_cmp_total, ranks}
+use Rattle.std.specs.Cmp.{nat_cmp_is, ranks}
 use Rattle.std.specs.Ordering.{MatchOrdering}
 use Rattle.table.specs.Rows.{pick, found, placed, below}
 use Rattle.book.specs.Keys.{by_number}
@@ -14,13 +14,13 @@ pub ranked : (a b : ℕ) (r : Ordering) → by_number a b ≡ r → MatchOrderin
 ranked a b r e = subst (λ o. MatchOrdering o (a < b) (a ≡ b) (b < a)) e (ranks a b)
 
 lower : (a b : ℕ) → a < b → by_number a b ≡ Less
-lower a b l = sym (nat_cmp_total.says a b Less l)
+lower a b l = sym (nat_cmp_is a b Less l)
 
 same : (a b : ℕ) → a ≡ b → by_number a b ≡ Equal
-same a b e = sym (nat_cmp_total.says a b Equal e)
+same a b e = sym (nat_cmp_is a b Equal e)
 
 higher : (a b : ℕ) → b < a → by_number a b ≡ Greater
-higher a b l = sym (nat_cmp_total.says a b Greater l)
+higher a b l = sym (nat_cmp_is a b Greater l)
 
 -- the first of the held messages, and the number that is looked for
 pub held_later : (k : ℕ) (h : Held) (hs : List Held) → h.number < k → is_held k (h ∷ hs) ≡ is_held k hs

@@ -2,7 +2,6 @@
 ghost use Rattle.std.specs.Prelude.{◌≡◌, ◌≤◌, length};
 ghost use Rattle.book.specs.Keys.{by_number};
 ghost use Rattle.running.specs.Rows.{row_number, message_in};
-ghost use Rattle.std.proofs.Common.{rules};
 
 use std::cmp::Ordering;
 use table::Row;
@@ -64,7 +63,7 @@ impl Row<ByNumber> for HeldRow {
 
     ghost order = { by_number };
 
-    ghost lawful = { Prim.search rules };
+    ghost lawful = { total_lawful nat_cmp_total };
 
     fn key_of(&self) -> u32 {
         self.number

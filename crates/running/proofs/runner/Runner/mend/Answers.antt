@@ -1,5 +1,5 @@
 use Rattle.std.proofs.Common.{◌≡◌, ◌-◌, ◌<◌, ◌≤◌, take, sym, ap, ◌∙◌, subst, arith, rules}
-use Rattle.following.specs.Follower.{run-wanted}
+use Rattle.following.specs.Follower.{run_wanted}
 use Rattle.following.specs.declared.answers.Ending.TheVariants as ending
 use Rattle.running.specs.declared.moves.Reached.TheVariants as reached
 use Rattle.running.specs.Runners.{room_of, book_in, held_in, Within, Stays}
@@ -18,7 +18,7 @@ loop-reached-preserved g c =
     let room = room_of c.args.self.now in
     let i = c.loop-reached.invariant in
     let f = c.in-Some.ensures in
-    let r = c.run-wanted-reached.ensures in
+    let r = c.run_wanted-reached.ensures in
     let self = c.loop-reached.self in
     let wanted = c.in-Wanting.wanted in
     let out = c.fetch.new.out in
@@ -35,8 +35,8 @@ loop-reached-preserved g c =
       search rules,
       further room _ c.args.highest c.args.budget c.loop-reached.left _ self c.loop-reached.reached i.7 wanted (take c.in-Some.length out) _ c.in-Wanting.is i.5 more heard held
           (r.place
-          ∙ ap (λ n. run-wanted (room_of self) (record { book = book_in self; wanted = wanted }) (take n out) (held_in self)) z
-          ∙ ap (λ x. run-wanted x (record { book = book_in self; wanted = wanted }) (take c.in-Some.length out) (held_in self)) i.4),
+          ∙ ap (λ n. run_wanted (room_of self) (record { book = book_in self; wanted = wanted }) (take n out) (held_in self)) z
+          ∙ ap (λ x. run_wanted x (record { book = book_in self; wanted = wanted }) (take c.in-Some.length out) (held_in self)) i.4),
     )
 
 pub returns : goal.returns

@@ -13,11 +13,11 @@ returns-in-Ok c =
     let w = c.args.wanted in
     let ran = c.in-Ok.ran in
     let f = c.in-Ok.ensures in
-    let g = c.remove-first.ensures in
+    let g = c.remove_first.ensures in
     let e = c.entries.ensures in
     record {
       place =
-          ap (λ rs. wanting (record { book = plain c.run-rows.new.book; wanted = w + ran }) (map held_message rs)) (g.entries ∙ ap (drop ran) (sym e))
+          ap (λ rs. wanting (record { book = plain c.run_rows.new.book; wanted = w + ran }) (map held_message rs)) (g.entries ∙ ap (drop ran) (sym e))
           ∙ sym (f.runs.2 (room_of self) refl)
           ∙ ap (λ rs. run-held (room_of self) (plain self.book.now) w (map held_message rs)) e;
       within = f.runs.1;

@@ -35,7 +35,7 @@ returns-then-number-wanted c =
 pub returns-then-number-wanted-2 : goal.returns-then-number-wanted-2
 returns-then-number-wanted-2 c =
     let self = c.args.self.now in
-    let r = c.run-wanted.ensures in
+    let r = c.run_wanted.ensures in
     record {
       treated = treated-wanted (room_of self) self c.args.reached c.args.number c.args.message.now c.in-Wanting.wanted c.in-Wanting.is c.if-number-wanted-2.true _ r.place;
       within = r.within;

@@ -59,7 +59,7 @@ loop-message-preserved c =
 pub returns : goal.returns
 returns c =
     let i = c.loop-message.invariant in
-    let f = c.in-default.ensures in
+    let f = c.in_default.ensures in
     let self = c.loop-message.self in
     let rest = c.loop-message.rest in
     let room = room_of c.args.self.now in

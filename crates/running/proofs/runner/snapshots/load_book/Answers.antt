@@ -17,12 +17,12 @@ loop-message-preserved c =
     let f = c.in-Ok-None.ensures in
     let book = plain c.loop-message.book in
     let a = f.answer in
-    let e : Ok (None, plain c.run-snapshot.new.self) ≡ ran_there (slots c.loop-message.book) book c.in-Some.message.now = cc in (
+    let e : Ok (None, plain c.run_snapshot.new.self) ≡ ran_there (slots c.loop-message.book) book c.in-Some.message.now = cc in (
       tt,
       tt,
       f.slots ∙ i.2,
       i.3
-          ∙ one_there (slots c.clear.new.self) book _ _ _ (Ok (None, plain c.run-snapshot.new.self)) c.in-Some.ensures.steps
+          ∙ one_there (slots c.clear.new.self) book _ _ _ (Ok (None, plain c.run_snapshot.new.self)) c.in-Some.ensures.steps
           (e ∙ ap (λ s. ran_there s book c.in-Some.message.now) i.2),
     )
 
@@ -32,14 +32,14 @@ returns-in-Ok-Some c =
     let f = c.in-Ok-Some.ensures in
     let book = plain c.loop-message.book in
     let a = f.answer in
-    let e : Ok (Some c.in-Ok-Some.next, plain c.run-snapshot.new.self) ≡ ran_there (slots c.loop-message.book) book c.in-Some.message.now = cc in
+    let e : Ok (Some c.in-Ok-Some.next, plain c.run_snapshot.new.self) ≡ ran_there (slots c.loop-message.book) book c.in-Some.message.now = cc in
     let cleared = c.clear.ensures.slots in
     record {
       loaded = λ session.
           sym (ap (completed session)
           (ap (λ s. run_there s (still_carried c.args.messages) empty) (sym cleared)
           ∙ i.3
-          ∙ one_there (slots c.clear.new.self) book _ _ (still_carried c.next.new.self) (Ok (Some c.in-Ok-Some.next, plain c.run-snapshot.new.self))
+          ∙ one_there (slots c.clear.new.self) book _ _ (still_carried c.next.new.self) (Ok (Some c.in-Ok-Some.next, plain c.run_snapshot.new.self))
           c.in-Some.ensures.steps
           (e ∙ ap (λ s. ran_there s book c.in-Some.message.now) i.2)));
       slots = f.slots ∙ i.2 ∙ cleared;
@@ -71,6 +71,6 @@ returns c =
           sym (ap (completed session)
           (ap (λ s. run_there s (still_carried c.args.messages) empty) (sym cleared)
           ∙ i.3
-          ∙ ap (λ xs. run_there (slots c.clear.new.self) xs (plain c.loop-message.book)) c.in-default.ensures.steps.0));
+          ∙ ap (λ xs. run_there (slots c.clear.new.self) xs (plain c.loop-message.book)) c.in_default.ensures.steps.0));
       slots = i.2 ∙ cleared;
     }
