@@ -35,7 +35,7 @@ def declared(text):
     found = set()
     inside = False
     for line in text.split("\n"):
-        m = re.match(r"^(?: {2}| {4})(?:(?:abbrev|unfoldable|pub|ruleset)\s+)*([a-zA-Z][^\s:(){}]*)\s*:(?:\s|$)", line)
+        m = re.match(r"^ {2,12}(?:(?:abbrev|unfoldable|pub|ruleset)\s+)*([a-zA-Z][^\s:(){}]*)\s*:(?:\s|$)", line)
         if m and not inside:
             # a definition of a module in the file
             found.add(m.group(1))

@@ -32,7 +32,7 @@ no_cause : (cause : Cause) → Read (Err cause)
 no_cause cause = record { fine = λ what e. let z : ◌≡◌ {A = ℕ} 0 1 = cc in absurd (omega arith) }
 
 reads : (what : Said) → Fine what → Read (Ok what)
-reads what p = record { fine = λ other-one e. let s : what ≡ other-one = cc in subst Fine s p }
+reads what p = record { fine = λ other_one e. let s : what ≡ other_one = cc in subst Fine s p }
 
 no_row : Row None
 no_row = record { fine = λ order e. let z : ◌≡◌ {A = ℕ} 0 1 = cc in absurd (omega arith) }

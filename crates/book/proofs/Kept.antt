@@ -70,17 +70,17 @@ all_found P q (y ∷ ys) x a f = go (all_found P q ys x a.1) (by_number y.refere
 still_listed : (book : Plain) (stock : Stock) (order : OrderRow) → HasStock book order → HasStock (with_stock stock book) order
 still_listed book stock order h = go (by_name (name_of stock) order.symbol.bytes) refl
   where
-    other-one : (by_name (name_of stock) order.symbol.bytes ≡ Equal → ⊥) → HasStock (with_stock stock book) order
-    other-one n = ap is_some (found_placed_other name_of by_name (total_lawful (lists_total nat_cmp_total)) stock book.stocks order.symbol.bytes n) ∙ h
+    other_one : (by_name (name_of stock) order.symbol.bytes ≡ Equal → ⊥) → HasStock (with_stock stock book) order
+    other_one n = ap is_some (found_placed_other name_of by_name (total_lawful (lists_total nat_cmp_total)) stock book.stocks order.symbol.bytes n) ∙ h
 
     go : (r : Ordering) → by_name (name_of stock) order.symbol.bytes ≡ r → HasStock (with_stock stock book) order
     go Equal p = ap is_some (found_placed name_of by_name (total_lawful (lists_total nat_cmp_total)) stock book.stocks order.symbol.bytes p)
-    go Less p = other-one (λ q. let z : ◌≡◌ {A = ℕ} 0 1 = cc in omega arith)
-    go Greater p = other-one (λ q. let z : ◌≡◌ {A = ℕ} 0 1 = cc in omega arith)
+    go Less p = other_one (λ q. let z : ◌≡◌ {A = ℕ} 0 1 = cc in omega arith)
+    go Greater p = other_one (λ q. let z : ◌≡◌ {A = ℕ} 0 1 = cc in omega arith)
 
 module _ (slots : Slots) (book : Plain) (good : Good slots book) where
-  good-stock : (stock : Stock) → length (placed name_of by_name stock book.stocks) ≤ slots.for_stocks → Good slots (with_stock stock book)
-  good-stock stock l =
+  good_stock : (stock : Stock) → length (placed name_of by_name stock book.stocks) ≤ slots.for_stocks → Good slots (with_stock stock book)
+  good_stock stock l =
       record {
         limits = good.limits;
         rising = good.rising;
@@ -89,8 +89,8 @@ module _ (slots : Slots) (book : Plain) (good : Good slots book) where
         orders_fit = good.orders_fit;
       }
 
-  good-order : (order : OrderRow) → within order ≡ true → HasStock book order → length (placed reference_of by_number order book.orders) ≤ slots.for_orders → Good slots (with_order order book)
-  good-order order w s l =
+  good_order : (order : OrderRow) → within order ≡ true → HasStock book order → length (placed reference_of by_number order book.orders) ≤ slots.for_orders → Good slots (with_order order book)
+  good_order order w s l =
       record {
         limits = placed_within order book.orders w good.limits;
         rising = ordered_placed reference_of by_number (total_lawful nat_cmp_total) order book.orders good.rising;
@@ -99,8 +99,8 @@ module _ (slots : Slots) (book : Plain) (good : Good slots book) where
         orders_fit = l;
       }
 
-  good-without : (reference : ℕ) → Good slots (without_order reference book)
-  good-without reference =
+  good_without : (reference : ℕ) → Good slots (without_order reference book)
+  good_without reference =
       record {
         limits = without_within reference book.orders good.limits;
         rising = ordered_without reference_of by_number reference book.orders good.rising;
@@ -120,15 +120,15 @@ module _ (slots : Slots) (book : Plain) (good : Good slots book) where
       go true e = omega arith
       go false e = omega arith
 
-  grown-order : (order : OrderRow) → length (placed reference_of by_number order book.orders) ≤ length book.orders + 1
-  grown-order order = go (is_some (found reference_of by_number order.reference book.orders)) (length_placed reference_of by_number order book.orders)
+  grown_order : (order : OrderRow) → length (placed reference_of by_number order book.orders) ≤ length book.orders + 1
+  grown_order order = go (is_some (found reference_of by_number order.reference book.orders)) (length_placed reference_of by_number order book.orders)
     where
       go : (b : Bool) → length (placed reference_of by_number order book.orders) ≡ length book.orders + cond b 0 1 → length (placed reference_of by_number order book.orders) ≤ length book.orders + 1
       go true e = omega arith
       go false e = omega arith
 
-  good-told : (symbol : Symbol) (s : Status) (o : Option Stock) (next : Plain) → stock_of symbol book ≡ o → told slots book symbol s o ≡ Ok next → Good slots next
-  good-told symbol s None next f e = go (ltb (length book.stocks) slots.for_stocks) refl e
+  good_told : (symbol : Symbol) (s : Status) (o : Option Stock) (next : Plain) → stock_of symbol book ≡ o → told slots book symbol s o ≡ Ok next → Good slots next
+  good_told symbol s None next f e = go (ltb (length book.stocks) slots.for_stocks) refl e
     where
       new : Stock
       new = with_state s (unheard symbol)
@@ -138,19 +138,19 @@ module _ (slots : Slots) (book : Plain) (good : Good slots book) where
           let is : with_stock new book ≡ next = cc in
           let l : length book.stocks < slots.for_stocks = ltb-true (length book.stocks) slots.for_stocks p in
           let g = grown new in
-          subst (Good slots) is (good-stock new (omega arith))
+          subst (Good slots) is (good_stock new (omega arith))
       go false p h = let z : ◌≡◌ {A = ℕ} 0 1 = cc in absurd (omega arith)
-  good-told symbol s (Some stock) next f e =
+  good_told symbol s (Some stock) next f e =
       let is : with_stock (with_state s stock) book ≡ next = cc in
       let again = found_again name_of by_name (total_lawful (lists_total nat_cmp_total)) symbol.bytes book.stocks stock f in
       let there : is_some (found name_of by_name (name_of (with_state s stock)) book.stocks) ≡ true = ap (λ k. is_some (found name_of by_name k book.stocks)) (same_name s stock) ∙ ap is_some again in
       let l : length (placed name_of by_name (with_state s stock) book.stocks) ≡ length book.stocks + 0 =
       length_placed name_of by_name (with_state s stock) book.stocks ∙ ap (λ b. length book.stocks + cond b 0 1) there in
       let g = good.stocks_fit in
-      subst (Good slots) is (good-stock (with_state s stock) (omega arith))
+      subst (Good slots) is (good_stock (with_state s stock) (omega arith))
 
-  good-added : (order : OrderRow) (next : Plain) → within order ≡ true → added slots book order ≡ Ok next → Good slots next
-  good-added order next w e = go (is_some (order_of order.reference book)) (is_some (stock_of order.symbol book)) (ltb (length book.orders) slots.for_orders) refl refl e
+  good_added : (order : OrderRow) (next : Plain) → within order ≡ true → added slots book order ≡ Ok next → Good slots next
+  good_added order next w e = go (is_some (order_of order.reference book)) (is_some (stock_of order.symbol book)) (ltb (length book.orders) slots.for_orders) refl refl e
     where
       go : (live known free : Bool) → is_some (stock_of order.symbol book) ≡ known → ltb (length book.orders) slots.for_orders ≡ free
           → cond live (Err LiveReference) (cond known (cond free (Ok (with_order order book)) (Err TableFull)) (Err NoStock)) ≡ Ok next → Good slots next
@@ -160,16 +160,16 @@ module _ (slots : Slots) (book : Plain) (good : Good slots book) where
       go false true true p q h =
           let is : with_order order book ≡ next = cc in
           let l : length book.orders < slots.for_orders = ltb-true (length book.orders) slots.for_orders q in
-          let g = grown-order order in
-          subst (Good slots) is (good-order order w p (omega arith))
+          let g = grown_order order in
+          subst (Good slots) is (good_order order w p (omega arith))
 
   -- shares that remain keep the limits
-  less-within : (n : ℕ) (order : OrderRow) → within order ≡ true → n < order.shares → within (less n order) ≡ true
-  less-within n order w l = grind (arith, nat_tests)
+  less_within : (n : ℕ) (order : OrderRow) → within order ≡ true → n < order.shares → within (less n order) ≡ true
+  less_within n order w l = grind (arith, nat_tests)
 
-  good-reduced : (q n : ℕ) (o : Option OrderRow) (next : Plain) → order_of q book ≡ o → reduced book n o ≡ Ok next → Good slots next
-  good-reduced q n None next f e = let z : ◌≡◌ {A = ℕ} 0 1 = cc in absurd (omega arith)
-  good-reduced q n (Some order) next f e = go (ltb order.shares n) (eqb order.shares n) refl refl e
+  good_reduced : (q n : ℕ) (o : Option OrderRow) (next : Plain) → order_of q book ≡ o → reduced book n o ≡ Ok next → Good slots next
+  good_reduced q n None next f e = let z : ◌≡◌ {A = ℕ} 0 1 = cc in absurd (omega arith)
+  good_reduced q n (Some order) next f e = go (ltb order.shares n) (eqb order.shares n) refl refl e
     where
       smaller : n < order.shares → Good slots (with_order (less n order) book)
       smaller l =
@@ -177,25 +177,25 @@ module _ (slots : Slots) (book : Plain) (good : Good slots book) where
           let long : length (placed reference_of by_number (less n order) book.orders) ≡ length book.orders + 0 =
           length_placed reference_of by_number (less n order) book.orders ∙ ap (λ b. length book.orders + cond b 0 1) (ap is_some again) in
           let g = good.orders_fit in
-          good-order (less n order) (less-within n order (found_within q book.orders order good.limits f) l) (all_found (HasStock book) q book.orders order good.listed f) (omega arith)
+          good_order (less n order) (less_within n order (found_within q book.orders order good.limits f) l) (all_found (HasStock book) q book.orders order good.listed f) (omega arith)
 
       go : (many all : Bool) → ltb order.shares n ≡ many → eqb order.shares n ≡ all
           → cond many (Err TooManyShares) (Ok (cond all (without_order order.reference book) (with_order (less n order) book))) ≡ Ok next → Good slots next
       go true all p r h = let z : ◌≡◌ {A = ℕ} 0 1 = cc in absurd (omega arith)
-      go false true p r h = let is : without_order order.reference book ≡ next = cc in subst (Good slots) is (good-without order.reference)
+      go false true p r h = let is : without_order order.reference book ≡ next = cc in subst (Good slots) is (good_without order.reference)
       go false false p r h =
           let is : with_order (less n order) book ≡ next = cc in
           let a = ltb-false order.shares n p in
           let b = eqb-false order.shares n r in
           subst (Good slots) is (smaller (omega arith))
 
-  pub good-done : (what : Said) (next : Plain) → Fine what → done slots book what ≡ Ok next → Good slots next
-  good-done second next fine e = let is : book ≡ next = cc in subst (Good slots) is good
-  good-done (event code) next fine e =
+  pub good_done : (what : Said) (next : Plain) → Fine what → done slots book what ≡ Ok next → Good slots next
+  good_done second next fine e = let is : book ≡ next = cc in subst (Good slots) is good
+  good_done (event code) next fine e =
       let is : with_event code book ≡ next = cc in
       subst (Good slots) is (record { limits = good.limits; rising = good.rising; listed = good.listed; stocks_fit = good.stocks_fit; orders_fit = good.orders_fit })
-  good-done (status symbol s) next fine e = good-told symbol s (stock_of symbol book) next refl e
-  good-done (add order) next fine e = good-added order next fine e
-  good-done (execute q n) next fine e = good-reduced q n (order_of q book) next refl e
-  good-done (cancel q n) next fine e = good-reduced q n (order_of q book) next refl e
-  good-done other next fine e = let is : book ≡ next = cc in subst (Good slots) is good
+  good_done (status symbol s) next fine e = good_told symbol s (stock_of symbol book) next refl e
+  good_done (add order) next fine e = good_added order next fine e
+  good_done (execute q n) next fine e = good_reduced q n (order_of q book) next refl e
+  good_done (cancel q n) next fine e = good_reduced q n (order_of q book) next refl e
+  good_done other next fine e = let is : book ≡ next = cc in subst (Good slots) is good

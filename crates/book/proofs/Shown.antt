@@ -36,11 +36,11 @@ module _ (symbol : Symbol) (side : Side) where
   pub rows_take : (xs : List OrderRow) (i : ℕ) (d : OrderRow) → i < length xs → asked symbol side (get_or xs i d) ≡ true → rows_of symbol side (take (i + 1) xs) ≡ rows_of symbol side (take i xs) ++ shown (get_or xs i d) ∷ []
   rows_take xs i d l t = rows_more xs i d l ∙ ap (λ b. rows_of symbol side (take i xs) ++ map shown (cond b (get_or xs i d ∷ []) [])) t
 
-  pub rows-skip : (xs : List OrderRow) (i : ℕ) (d : OrderRow) → i < length xs → asked symbol side (get_or xs i d) ≡ false → rows_of symbol side (take (i + 1) xs) ≡ rows_of symbol side (take i xs)
-  rows-skip xs i d l t = rows_more xs i d l ∙ (ap (λ b. rows_of symbol side (take i xs) ++ map shown (cond b (get_or xs i d ∷ []) [])) t ∙ append-nil (rows_of symbol side (take i xs)))
+  pub rows_skip : (xs : List OrderRow) (i : ℕ) (d : OrderRow) → i < length xs → asked symbol side (get_or xs i d) ≡ false → rows_of symbol side (take (i + 1) xs) ≡ rows_of symbol side (take i xs)
+  rows_skip xs i d l t = rows_more xs i d l ∙ (ap (λ b. rows_of symbol side (take i xs) ++ map shown (cond b (get_or xs i d ∷ []) [])) t ∙ append-nil (rows_of symbol side (take i xs)))
 
-  pub rows-count : (xs : List OrderRow) (i : ℕ) (d : OrderRow) → i < length xs → asked symbol side (get_or xs i d) ≡ true → length (rows_of symbol side (take (i + 1) xs)) ≡ length (rows_of symbol side (take i xs)) + 1
-  rows-count xs i d l t = ap length (rows_take xs i d l t) ∙ length-append (rows_of symbol side (take i xs)) (shown (get_or xs i d) ∷ [])
+  pub rows_count : (xs : List OrderRow) (i : ℕ) (d : OrderRow) → i < length xs → asked symbol side (get_or xs i d) ≡ true → length (rows_of symbol side (take (i + 1) xs)) ≡ length (rows_of symbol side (take i xs)) + 1
+  rows_count xs i d l t = ap length (rows_take xs i d l t) ∙ length-append (rows_of symbol side (take i xs)) (shown (get_or xs i d) ∷ [])
 
   rows_fit : (xs : List OrderRow) (i : ℕ) → length (rows_of symbol side (take i xs)) ≤ length (rows_of symbol side xs)
   rows_fit xs i =
@@ -50,8 +50,8 @@ module _ (symbol : Symbol) (side : Side) where
       omega arith
 
   -- one more row fits where all of them do
-  pub rows-room : (xs : List OrderRow) (i : ℕ) (d : OrderRow) → i < length xs → asked symbol side (get_or xs i d) ≡ true → length (rows_of symbol side (take i xs)) < length (rows_of symbol side xs)
-  rows-room xs i d l t = let f = rows_fit xs (i + 1) in let n = rows-count xs i d l t in omega arith
+  pub rows_room : (xs : List OrderRow) (i : ℕ) (d : OrderRow) → i < length xs → asked symbol side (get_or xs i d) ≡ true → length (rows_of symbol side (take i xs)) < length (rows_of symbol side xs)
+  rows_room xs i d l t = let f = rows_fit xs (i + 1) in let n = rows_count xs i d l t in omega arith
 
 -- one more row at the front of lent rows
 put_more : (front lent : List BookRow) (n : ℕ) (row : BookRow) → n ≡ length front → n < length lent → set (front ++ drop n lent) n row ≡ (front ++ row ∷ []) ++ drop (n + 1) lent
@@ -67,10 +67,10 @@ shown_more front front' lent rows rows' n n' row e l h f k s = let put = put_mor
 
 -- the answer where the stock is there, and where it is not
 module _ (book : Plain) (symbol : Symbol) (side : Side) (n : ℕ) where
-  pub orders-known : is_some (stock_of symbol book) ≡ true → orders_of book symbol side n ≡ fitting n (rows_of symbol side book.orders)
+  pub orders_known : is_some (stock_of symbol book) ≡ true → orders_of book symbol side n ≡ fitting n (rows_of symbol side book.orders)
   unfolding orders_of
-  orders-known h = cond-true _ _ _ h
+  orders_known h = cond-true _ _ _ h
 
-  pub orders-unknown : is_some (stock_of symbol book) ≡ false → orders_of book symbol side n ≡ Err NoStock
+  pub orders_unknown : is_some (stock_of symbol book) ≡ false → orders_of book symbol side n ≡ Err NoStock
   unfolding orders_of
-  orders-unknown h = cond-false _ _ _ h
+  orders_unknown h = cond-false _ _ _ h

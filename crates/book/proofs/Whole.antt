@@ -13,7 +13,7 @@ use Rattle.book.specs.Keys.{reference_of, by_number, within, all_within}
 use Rattle.book.specs.Plain.{Plain, Slots, empty, done, done_if_read, going, done_there_if_read, ran, ran_there}
 use Rattle.book.specs.Runs.{run_on, run_there, and_then, unless_ended, Sound, RunsSound, SnapshotsSound, SecondsIdle, OthersIdle}
 use Rattle.book.proofs.Fields.{Fine, said_fine, told_fine}
-use Rattle.book.proofs.Kept.{Good, good_empty, good-done}
+use Rattle.book.proofs.Kept.{Good, good_empty, good_done}
 use Rattle.book.proofs.Runs.{ran_read}
 
 shares_within : (order : OrderRow) → within order ≡ true → (1 ≤ order.shares) × (order.shares ≤ most32)
@@ -53,7 +53,7 @@ unfolding ran
 good_ran slots book m next good e = go (feed_message m) refl e
   where
     go : (r : Result Said Cause) → feed_message m ≡ r → done_if_read slots book r ≡ Ok next → Good slots next
-    go (Ok what) p h = good-done slots book good what next (said_fine m what p) h
+    go (Ok what) p h = good_done slots book good what next (said_fine m what p) h
     go (Err cause) p h = let z : ◌≡◌ {A = ℕ} 0 1 = cc in absurd (omega arith)
 
 good_on : (slots : Slots) (ms : List (List ℕ)) (book last : Plain) → Good slots book → run_on slots ms book ≡ Ok last → Good slots last
@@ -75,7 +75,7 @@ good_there slots book m t good e = go (snapshot_message m) refl e
     did : (what : Said) → Fine what → (r : Result Plain Cause) → done slots book what ≡ r → going r ≡ Ok t → Good slots t.1
     did what fine (Ok next) p h =
         let is : (None, next) ≡ t = cc in
-        subst (λ (u : Option ℕ × Plain). Good slots u.1) is (good-done slots book good what next fine p)
+        subst (λ (u : Option ℕ × Plain). Good slots u.1) is (good_done slots book good what next fine p)
     did what fine (Err cause) p h = let z : ◌≡◌ {A = ℕ} 0 1 = cc in absurd (omega arith)
 
     go : (r : Result Told Cause) → snapshot_message m ≡ r → done_there_if_read slots book r ≡ Ok t → Good slots t.1

@@ -30,19 +30,19 @@ use Rattle.following.specs.Calls as calls
 use Rattle.following.specs.Follower.{
   Snapshot,
   agrees,
-  on-packet,
-  snapshot-of,
-  on-snapshot,
+  on_packet,
+  snapshot_of,
+  on_snapshot,
   Mended,
   mended,
-  on-mended,
-  unless-waiting,
-  on-repair,
-  on-question,
+  on_mended,
+  unless_waiting,
+  on_repair,
+  on_question,
   place_of,
-  while-dark,
-  while-red,
-  while-started,
+  while_dark,
+  while_red,
+  while_started,
   outcome,
   moved,
 }
@@ -66,21 +66,21 @@ module _ (room : Room) (rows : List BookRow) where
   either_way true o o' a b = a
   either_way false o o' a b = b
 
-  packet-leaves : (s : Started) (r : Result Sent Refusal) → Leaves (on-packet room s r)
-  packet-leaves s (Err why) = refl
-  packet-leaves s (Ok (heartbeat next session)) = either_way (agrees s.session session) _ _ refl refl
-  packet-leaves s (Ok (messages number ms)) = refl
+  packet_leaves : (s : Started) (r : Result Sent Refusal) → Leaves (on_packet room s r)
+  packet_leaves s (Err why) = refl
+  packet_leaves s (Ok (heartbeat next session)) = either_way (agrees s.session session) _ _ refl refl
+  packet_leaves s (Ok (messages number ms)) = refl
 
-  snapshot-leaves : (s : Started) (r : Result Snapshot Refusal) → Leaves (on-snapshot room s r)
-  snapshot-leaves s (Err why) = refl
-  snapshot-leaves s (Ok snap) = refl
+  snapshot_leaves : (s : Started) (r : Result Snapshot Refusal) → Leaves (on_snapshot room s r)
+  snapshot_leaves s (Err why) = refl
+  snapshot_leaves s (Ok snap) = refl
 
-  waiting-leaves : (l : Lamp) (o : Outcome) → Leaves o → Leaves (unless-waiting room l o)
-  waiting-leaves lamp.Waiting o h = refl
-  waiting-leaves lamp.Dark o h = h
-  waiting-leaves (lamp.Red k c) o h = h
-  waiting-leaves (lamp.Gap w k) o h = h
-  waiting-leaves (lamp.Green w) o h = h
+  waiting_leaves : (l : Lamp) (o : Outcome) → Leaves o → Leaves (unless_waiting room l o)
+  waiting_leaves lamp.Waiting o h = refl
+  waiting_leaves lamp.Dark o h = h
+  waiting_leaves (lamp.Red k c) o h = h
+  waiting_leaves (lamp.Gap w k) o h = h
+  waiting_leaves (lamp.Green w) o h = h
 
   abbrev Silent : calls.Call → Type 0
   Silent start_at_one = Unit {0}
@@ -92,65 +92,65 @@ module _ (room : Room) (rows : List BookRow) where
   Silent show_lamp = Unit {0}
   Silent (ask q) = ⊥
 
-  dark-leaves : (c : calls.Call) → Leaves (while-dark room c)
-  unfolding while-dark
-  dark-leaves start_at_one = refl
-  dark-leaves start_by_snapshot = refl
-  dark-leaves stop = refl
-  dark-leaves (packet bytes) = refl
-  dark-leaves (snapshot bytes) = refl
-  dark-leaves (repair source budget) = refl
-  dark-leaves show_lamp = refl
-  dark-leaves (ask q) = refl
+  dark_leaves : (c : calls.Call) → Leaves (while_dark room c)
+  unfolding while_dark
+  dark_leaves start_at_one = refl
+  dark_leaves start_by_snapshot = refl
+  dark_leaves stop = refl
+  dark_leaves (packet bytes) = refl
+  dark_leaves (snapshot bytes) = refl
+  dark_leaves (repair source budget) = refl
+  dark_leaves show_lamp = refl
+  dark_leaves (ask q) = refl
 
-  red-leaves : (k : ℕ) (cause : Cause) (c : calls.Call) → Leaves (while-red room k cause c)
-  unfolding while-red
-  red-leaves k cause start_at_one = refl
-  red-leaves k cause start_by_snapshot = refl
-  red-leaves k cause stop = refl
-  red-leaves k cause (packet bytes) = refl
-  red-leaves k cause (snapshot bytes) = refl
-  red-leaves k cause (repair source budget) = refl
-  red-leaves k cause show_lamp = refl
-  red-leaves k cause (ask q) = refl
+  red_leaves : (k : ℕ) (cause : Cause) (c : calls.Call) → Leaves (while_red room k cause c)
+  unfolding while_red
+  red_leaves k cause start_at_one = refl
+  red_leaves k cause start_by_snapshot = refl
+  red_leaves k cause stop = refl
+  red_leaves k cause (packet bytes) = refl
+  red_leaves k cause (snapshot bytes) = refl
+  red_leaves k cause (repair source budget) = refl
+  red_leaves k cause show_lamp = refl
+  red_leaves k cause (ask q) = refl
 
-  started-leaves : (s : Started) (c : calls.Call) → Silent c → Leaves (while-started room s c)
-  unfolding while-started
-  started-leaves s start_at_one q = refl
-  started-leaves s start_by_snapshot q = refl
-  started-leaves s stop q = refl
-  started-leaves s (packet bytes) q = packet-leaves s (packet_of bytes)
-  started-leaves s (snapshot bytes) q = either_way (is_some s.book) _ _ refl (snapshot-leaves s (snapshot-of room s.session bytes))
-  started-leaves s (repair source budget) q =
-      either_way (agrees s.session source.session) _ _ (waiting-leaves (lamp_at s.book s.heard s.highest) _ refl) refl
-  started-leaves s show_lamp q = refl
-  started-leaves s (ask x) q = absurd q
+  started_leaves : (s : Started) (c : calls.Call) → Silent c → Leaves (while_started room s c)
+  unfolding while_started
+  started_leaves s start_at_one q = refl
+  started_leaves s start_by_snapshot q = refl
+  started_leaves s stop q = refl
+  started_leaves s (packet bytes) q = packet_leaves s (packet_of bytes)
+  started_leaves s (snapshot bytes) q = either_way (is_some s.book) _ _ refl (snapshot_leaves s (snapshot_of room s.session bytes))
+  started_leaves s (repair source budget) q =
+      either_way (agrees s.session source.session) _ _ (waiting_leaves (lamp_at s.book s.heard s.highest) _ refl) refl
+  started_leaves s show_lamp q = refl
+  started_leaves s (ask x) q = absurd q
 
   pub leaves : (s : State) (c : calls.Call) → Silent c → Leaves (outcome room s c)
   unfolding outcome
-  leaves dark c q = dark-leaves c
-  leaves (red k cause) c q = red-leaves k cause c
-  leaves (started s) c q = started-leaves s c q
+  leaves dark c q = dark_leaves c
+  leaves (red k cause) c q = red_leaves k cause c
+  leaves (started s) c q = started_leaves s c q
 
 -- a question leaves the state as it is
 module _ (room : Room) where
-  told-stays : (s : State) (r : Result calls.Reply Refusal) → s ≡ moved (told s r) s
-  told-stays s (Ok reply) = refl
-  told-stays s (Err why) = refl
+  told_stays : (s : State) (r : Result calls.Reply Refusal) → s ≡ moved (told s r) s
+  told_stays s (Ok reply) = refl
+  told_stays s (Err why) = refl
 
-  asked-stays : (l : Lamp) (b : Option Wanting) (s : State) (q : calls.Question) → s ≡ moved (on-question room l b s q) s
-  asked-stays (lamp.Green w) (Some b) s q = told-stays s (answered b.book q)
-  asked-stays (lamp.Green w) None s q = refl
-  asked-stays lamp.Waiting b s q = refl
-  asked-stays lamp.Dark b s q = refl
-  asked-stays (lamp.Red k cause) b s q = refl
-  asked-stays (lamp.Gap w k) b s q = refl
+  asked_stays : (l : Lamp) (b : Option Wanting) (s : State) (q : calls.Question) → s ≡ moved (on_question room l b s q) s
+  asked_stays (lamp.Green w) (Some b) s q = told_stays s (answered b.book q)
+  asked_stays (lamp.Green w) None s q = refl
+  asked_stays lamp.Waiting b s q = refl
+  asked_stays lamp.Dark b s q = refl
+  asked_stays (lamp.Red k cause) b s q = refl
+  asked_stays (lamp.Gap w k) b s q = refl
 
-  pub question-stays : (s : State) (q : calls.Question) → s ≡ moved (outcome room s (ask q)) s
-  unfolding outcome while-dark while-red while-started
-  question-stays dark q = refl
-  question-stays (red k cause) q = refl
-  question-stays (started s) q = asked-stays (lamp_at s.book s.heard s.highest) s.book (started s) q
+  pub question_stays : (s : State) (q : calls.Question) → s ≡ moved (outcome room s (ask q)) s
+  unfolding outcome while_dark while_red while_started
+  question_stays dark q = refl
+  question_stays (red k cause) q = refl
+  question_stays (started s) q = asked_stays (lamp_at s.book s.heard s.highest) s.book (started s) q
 
 module _ {S : Type 0} (meaning : S → Meaning) (agree : S → Type 0) (before : Follower) (given : Call S) (lent : List BookRow) where
   -- how this call comes out
@@ -190,13 +190,13 @@ module _ {S : Type 0} (meaning : S → Meaning) (agree : S → Type 0) (before :
 
   -- the lamp
   shown_at : (s : State) → outcome (slots_of before) s show_lamp ≡ accepted s (lamp_shown (lamp_of s))
-  unfolding outcome while-dark while-red while-started
+  unfolding outcome while_dark while_red while_started
   shown_at dark = refl
   shown_at (red k cause) = refl
   shown_at (started s) = refl
 
-  pub shows-lamp : (l : Lamp) → l ≡ lamp_of (model before) → given ≡ call.Lamp → Shows before lent given (Ok (answer.Lamp l))
-  shows-lamp l e g =
+  pub shows_lamp : (l : Lamp) → l ≡ lamp_of (model before) → given ≡ call.Lamp → Shows before lent given (Ok (answer.Lamp l))
+  shows_lamp l e g =
       answers before given show_lamp (Ok (answer.Lamp l)) (ap (λ x. call_of meaning x (length lent)) g) tt (ap (λ x. call_of meaning x (length lent)) g)
       (subst (SourcesAgree agree) (sym g) tt)
       (came_accepted before before (outcome (slots_of before) (model before) show_lamp) (model before) (lamp_shown (lamp_of (model before)))
@@ -218,24 +218,24 @@ module _ {S : Type 0} (meaning : S → Meaning) (agree : S → Type 0) (before :
 
   -- what the dark refuses, and what red refuses
   module _ (book : Plain) (held : List Held) where
-    abbrev Not-in-dark : Call S → Type 0
-    Not-in-dark call.StartAtOne = ⊥
-    Not-in-dark call.StartBySnapshot = ⊥
-    Not-in-dark call.Stop = Unit {0}
-    Not-in-dark (call.Packet bytes) = Unit {0}
-    Not-in-dark (call.Snapshot bytes) = Unit {0}
-    Not-in-dark (call.Repair source budget) = Unit {0}
-    Not-in-dark call.Lamp = ⊥
-    Not-in-dark (call.Ask question) = Unit {0}
+    abbrev NotInDark : Call S → Type 0
+    NotInDark call.StartAtOne = ⊥
+    NotInDark call.StartBySnapshot = ⊥
+    NotInDark call.Stop = Unit {0}
+    NotInDark (call.Packet bytes) = Unit {0}
+    NotInDark (call.Snapshot bytes) = Unit {0}
+    NotInDark (call.Repair source budget) = Unit {0}
+    NotInDark call.Lamp = ⊥
+    NotInDark (call.Ask question) = Unit {0}
 
-    pub refused-dark :
-        (s : StateOf) (room : Room) (n : ℕ) (g : Call S) → s ≡ state.Dark → given ≡ g → Not-in-dark g →
+    pub refused_dark :
+        (s : StateOf) (room : Room) (n : ℕ) (g : Call S) → s ≡ state.Dark → given ≡ g → NotInDark g →
         outcome room (modelled s book held) (call_of meaning given n) ≡ refused refusal.Dark
-    unfolding outcome while-dark
-    refused-dark s room n g e q b =
+    unfolding outcome while_dark
+    refused_dark s room n g e q b =
         ap (λ x. outcome room (modelled x book held) (call_of meaning given n)) e ∙ ap (λ x. outcome room dark (call_of meaning x n)) q ∙ go g b
       where
-        go : (g : Call S) → Not-in-dark g → outcome room dark (call_of meaning g n) ≡ refused refusal.Dark
+        go : (g : Call S) → NotInDark g → outcome room dark (call_of meaning g n) ≡ refused refusal.Dark
         go call.StartAtOne b = absurd b
         go call.StartBySnapshot b = absurd b
         go call.Stop b = refl
@@ -245,24 +245,24 @@ module _ {S : Type 0} (meaning : S → Meaning) (agree : S → Type 0) (before :
         go call.Lamp b = absurd b
         go (call.Ask question) b = refl
 
-    abbrev Not-in-red : Call S → Type 0
-    Not-in-red call.StartAtOne = ⊥
-    Not-in-red call.StartBySnapshot = ⊥
-    Not-in-red call.Stop = ⊥
-    Not-in-red (call.Packet bytes) = Unit {0}
-    Not-in-red (call.Snapshot bytes) = Unit {0}
-    Not-in-red (call.Repair source budget) = Unit {0}
-    Not-in-red call.Lamp = ⊥
-    Not-in-red (call.Ask question) = Unit {0}
+    abbrev NotInRed : Call S → Type 0
+    NotInRed call.StartAtOne = ⊥
+    NotInRed call.StartBySnapshot = ⊥
+    NotInRed call.Stop = ⊥
+    NotInRed (call.Packet bytes) = Unit {0}
+    NotInRed (call.Snapshot bytes) = Unit {0}
+    NotInRed (call.Repair source budget) = Unit {0}
+    NotInRed call.Lamp = ⊥
+    NotInRed (call.Ask question) = Unit {0}
 
-    pub refused-red :
-        (s : StateOf) (room : Room) (n k : ℕ) (cause : Cause) (g : Call S) → s ≡ state.Red k cause → given ≡ g → Not-in-red g →
+    pub refused_red :
+        (s : StateOf) (room : Room) (n k : ℕ) (cause : Cause) (g : Call S) → s ≡ state.Red k cause → given ≡ g → NotInRed g →
         outcome room (modelled s book held) (call_of meaning given n) ≡ refused refusal.Red
-    unfolding outcome while-red
-    refused-red s room n k cause g e q b =
+    unfolding outcome while_red
+    refused_red s room n k cause g e q b =
         ap (λ x. outcome room (modelled x book held) (call_of meaning given n)) e ∙ ap (λ x. outcome room (red k cause) (call_of meaning x n)) q ∙ go g b
       where
-        go : (g : Call S) → Not-in-red g → outcome room (red k cause) (call_of meaning g n) ≡ refused refusal.Red
+        go : (g : Call S) → NotInRed g → outcome room (red k cause) (call_of meaning g n) ≡ refused refusal.Red
         go call.StartAtOne b = absurd b
         go call.StartBySnapshot b = absurd b
         go call.Stop b = absurd b
@@ -273,15 +273,15 @@ module _ {S : Type 0} (meaning : S → Meaning) (agree : S → Type 0) (before :
         go (call.Ask question) b = refl
 
     -- a start while not dark
-    abbrev Is-start : Call S → Type 0
-    Is-start g = (g ≡ call.StartAtOne) ⊎ (g ≡ call.StartBySnapshot)
+    abbrev IsStart : Call S → Type 0
+    IsStart g = (g ≡ call.StartAtOne) ⊎ (g ≡ call.StartBySnapshot)
 
-    pub refused-start :
-        (s : StateOf) (room : Room) (n : ℕ) → (s ≡ state.Dark → ⊥) → Is-start given →
+    pub refused_start :
+        (s : StateOf) (room : Room) (n : ℕ) → (s ≡ state.Dark → ⊥) → IsStart given →
         outcome room (modelled s book held) (call_of meaning given n) ≡ refused refusal.NotDark
-    unfolding outcome while-red while-started
-    refused-start state.Dark room n e g = absurd (e refl)
-    refused-start (state.Red k cause) room n e (inl g) = ap (λ x. outcome room (red k cause) (call_of meaning x n)) g
-    refused-start (state.Red k cause) room n e (inr g) = ap (λ x. outcome room (red k cause) (call_of meaning x n)) g
-    refused-start (state.Started st) room n e (inl g) = ap (λ x. outcome room (modelled (state.Started st) book held) (call_of meaning x n)) g
-    refused-start (state.Started st) room n e (inr g) = ap (λ x. outcome room (modelled (state.Started st) book held) (call_of meaning x n)) g
+    unfolding outcome while_red while_started
+    refused_start state.Dark room n e g = absurd (e refl)
+    refused_start (state.Red k cause) room n e (inl g) = ap (λ x. outcome room (red k cause) (call_of meaning x n)) g
+    refused_start (state.Red k cause) room n e (inr g) = ap (λ x. outcome room (red k cause) (call_of meaning x n)) g
+    refused_start (state.Started st) room n e (inl g) = ap (λ x. outcome room (modelled (state.Started st) book held) (call_of meaning x n)) g
+    refused_start (state.Started st) room n e (inr g) = ap (λ x. outcome room (modelled (state.Started st) book held) (call_of meaning x n)) g

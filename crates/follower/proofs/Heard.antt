@@ -22,14 +22,14 @@ use Rattle.following.specs.Follower.{
   last_of,
   place_after,
   counts_of,
-  on-packet,
-  while-started,
+  on_packet,
+  while_started,
   outcome,
 }
 use Rattle.following.specs.declared.answers.Counts.{Counts}
-use Rattle.following.proofs.Shapes.{Shape, shape_up, place-after-shape}
+use Rattle.following.proofs.Shapes.{Shape, shape_up, place_after_shape}
 use Rattle.following.proofs.Standing.{last_covers}
-use Rattle.following.proofs.Readings.{number-from-one}
+use Rattle.following.proofs.Readings.{number_from_one}
 use Rattle.running.specs.Runners.{place_in, book_in, held_in}
 use Rattle.running.specs.declared.moves.Reached.{Reached}
 use Rattle.running.specs.declared.runner.Runner.{Runner}
@@ -41,7 +41,7 @@ use Rattle.follower.specs.Modelled.{modelled, wanting_at, Reachable}
 use Rattle.follower.specs.Model.{model, slots_of}
 use Rattle.follower.specs.Steps.{reached_at, bounded_by, LastOf}
 use Rattle.follower.proofs.Reaching.{by_history, stands, bounded}
-use Rattle.follower.proofs.Started.{started_as, highest_within, started-shape}
+use Rattle.follower.proofs.Started.{started_as, highest_within, started_shape}
 
 -- one message walked: the walk ends at the same number
 pub walked_on :
@@ -61,36 +61,36 @@ walked_all number n last (m ∷ all) ms e t (inr w) = let z : ◌≡◌ {A = ℕ
 
 -- a heartbeat tells a number that there can be
 module _ (next : ℕ) (session : Session) where
-  beat-number : (n : ℕ) (o : Option Session) → laid_out (heartbeat n) o ≡ Ok (heartbeat next session) → n ≡ next
-  beat-number n None e = let z : ◌≡◌ {A = ℕ} 0 1 = cc in absurd (omega arith)
-  beat-number n (Some s) e = cc
+  beat_number : (n : ℕ) (o : Option Session) → laid_out (heartbeat n) o ≡ Ok (heartbeat next session) → n ≡ next
+  beat_number n None e = let z : ◌≡◌ {A = ℕ} 0 1 = cc in absurd (omega arith)
+  beat_number n (Some s) e = cc
 
-  no-data : (n : ℕ) (o : Option (List (List ℕ))) → laid_out (messages n) o ≡ Ok (heartbeat next session) → ⊥
-  no-data n None e = let z : ◌≡◌ {A = ℕ} 0 1 = cc in omega arith
-  no-data n (Some xs) e = let z : ◌≡◌ {A = ℕ} 0 1 = cc in omega arith
+  no_data : (n : ℕ) (o : Option (List (List ℕ))) → laid_out (messages n) o ≡ Ok (heartbeat next session) → ⊥
+  no_data n None e = let z : ◌≡◌ {A = ℕ} 0 1 = cc in omega arith
+  no_data n (Some xs) e = let z : ◌≡◌ {A = ℕ} 0 1 = cc in omega arith
 
-  behind-beat :
+  behind_beat :
       (n count : ℕ) (rest : List ℕ) (t u : Bool) → well_numbered n count ≡ t →
       cond t (cond u (laid_out (heartbeat n) (session_of rest)) (laid_out (messages n) (unpacked count rest))) (Err refusal.PacketNumbers) ≡ Ok (heartbeat next session) →
       next ≤ most32
-  behind-beat n count rest false u q e = let z : ◌≡◌ {A = ℕ} 0 1 = cc in absurd (omega arith)
-  behind-beat n count rest true false q e = absurd (no-data n (unpacked count rest) e)
-  behind-beat n count rest true true q e =
-      let same : n ≡ next = beat-number n (session_of rest) e in
+  behind_beat n count rest false u q e = let z : ◌≡◌ {A = ℕ} 0 1 = cc in absurd (omega arith)
+  behind_beat n count rest true false q e = absurd (no_data n (unpacked count rest) e)
+  behind_beat n count rest true true q e =
+      let same : n ≡ next = beat_number n (session_of rest) e in
       let l : n + (count - 1) ≤ most32 = leb-true (n + (count - 1)) most32 (and_parts (leb 1 n && leb count most16) (leb (n + (count - 1)) most32) q).1 in
       omega arith
 
-  packet-beat :
+  packet_beat :
       (bytes : List ℕ) (t : Bool) →
       cond t (Err refusal.ShortPacket) (behind (be32 bytes 0) (be16 bytes 4) (drop 6 bytes)) ≡ Ok (heartbeat next session) →
       next ≤ most32
-  packet-beat bytes true e = let z : ◌≡◌ {A = ℕ} 0 1 = cc in absurd (omega arith)
-  packet-beat bytes false e =
-      behind-beat (be32 bytes 0) (be16 bytes 4) (drop 6 bytes) (well_numbered (be32 bytes 0) (be16 bytes 4)) (eqb (be16 bytes 4) 0) refl e
+  packet_beat bytes true e = let z : ◌≡◌ {A = ℕ} 0 1 = cc in absurd (omega arith)
+  packet_beat bytes false e =
+      behind_beat (be32 bytes 0) (be16 bytes 4) (drop 6 bytes) (well_numbered (be32 bytes 0) (be16 bytes 4)) (eqb (be16 bytes 4) 0) refl e
 
-  pub beat-within : (bytes : List ℕ) → packet_of bytes ≡ Ok (heartbeat next session) → next ≤ most32
+  pub beat_within : (bytes : List ℕ) → packet_of bytes ≡ Ok (heartbeat next session) → next ≤ most32
   unfolding packet_of
-  beat-within bytes e = packet-beat bytes (ltb (length bytes) 6) e
+  beat_within bytes e = packet_beat bytes (ltb (length bytes) 6) e
 
 -- data have a message
 one_more : (x : List ℕ) (o : Option (List (List ℕ))) → option_map (λ ms. x ∷ ms) o ≡ Some [] → ⊥
@@ -109,39 +109,39 @@ not_none n rest e = go (message_length rest) e
     go (Some k) q = one_more (take k (drop 2 rest)) (unpacked n (drop (2 + k) rest)) q
 
 module _ (number : ℕ) where
-  no-messages : (n : ℕ) (o : Option (List (List ℕ))) → laid_out (messages n) o ≡ Ok (messages number []) → o ≡ Some []
-  no-messages n None e = let z : ◌≡◌ {A = ℕ} 0 1 = cc in absurd (omega arith)
-  no-messages n (Some xs) e = cc
+  no_messages : (n : ℕ) (o : Option (List (List ℕ))) → laid_out (messages n) o ≡ Ok (messages number []) → o ≡ Some []
+  no_messages n None e = let z : ◌≡◌ {A = ℕ} 0 1 = cc in absurd (omega arith)
+  no_messages n (Some xs) e = cc
 
-  no-heartbeat : (n : ℕ) (o : Option Session) → laid_out (heartbeat n) o ≡ Ok (messages number []) → ⊥
-  no-heartbeat n None e = let z : ◌≡◌ {A = ℕ} 0 1 = cc in omega arith
-  no-heartbeat n (Some s) e = let z : ◌≡◌ {A = ℕ} 0 1 = cc in omega arith
+  no_heartbeat : (n : ℕ) (o : Option Session) → laid_out (heartbeat n) o ≡ Ok (messages number []) → ⊥
+  no_heartbeat n None e = let z : ◌≡◌ {A = ℕ} 0 1 = cc in omega arith
+  no_heartbeat n (Some s) e = let z : ◌≡◌ {A = ℕ} 0 1 = cc in omega arith
 
-  behind-data :
+  behind_data :
       (n count : ℕ) (rest : List ℕ) (t u : Bool) → eqb count 0 ≡ u →
       cond t (cond u (laid_out (heartbeat n) (session_of rest)) (laid_out (messages n) (unpacked count rest))) (Err refusal.PacketNumbers) ≡ Ok (messages number []) →
       ⊥
-  behind-data n count rest false u q e = let z : ◌≡◌ {A = ℕ} 0 1 = cc in omega arith
-  behind-data n count rest true true q e = no-heartbeat n (session_of rest) e
-  behind-data n zero rest true false q e = eqb-false 0 0 q refl
-  behind-data n (suc count) rest true false q e = not_none count rest (no-messages n (unpacked (suc count) rest) e)
+  behind_data n count rest false u q e = let z : ◌≡◌ {A = ℕ} 0 1 = cc in omega arith
+  behind_data n count rest true true q e = no_heartbeat n (session_of rest) e
+  behind_data n zero rest true false q e = eqb-false 0 0 q refl
+  behind_data n (suc count) rest true false q e = not_none count rest (no_messages n (unpacked (suc count) rest) e)
 
-  packet-data :
+  packet_data :
       (bytes : List ℕ) (t : Bool) →
       cond t (Err refusal.ShortPacket) (behind (be32 bytes 0) (be16 bytes 4) (drop 6 bytes)) ≡ Ok (messages number []) → ⊥
-  packet-data bytes true e = let z : ◌≡◌ {A = ℕ} 0 1 = cc in omega arith
-  packet-data bytes false e =
-      behind-data (be32 bytes 0) (be16 bytes 4) (drop 6 bytes) (well_numbered (be32 bytes 0) (be16 bytes 4)) (eqb (be16 bytes 4) 0) refl e
+  packet_data bytes true e = let z : ◌≡◌ {A = ℕ} 0 1 = cc in omega arith
+  packet_data bytes false e =
+      behind_data (be32 bytes 0) (be16 bytes 4) (drop 6 bytes) (well_numbered (be32 bytes 0) (be16 bytes 4)) (eqb (be16 bytes 4) 0) refl e
 
-  never-empty : (bytes : List ℕ) → packet_of bytes ≡ Ok (messages number []) → ⊥
+  never_empty : (bytes : List ℕ) → packet_of bytes ≡ Ok (messages number []) → ⊥
   unfolding packet_of
-  never-empty bytes e = packet-data bytes (ltb (length bytes) 6) e
+  never_empty bytes e = packet_data bytes (ltb (length bytes) 6) e
 
-  pub last-told :
+  pub last_told :
       (ms : List (List ℕ)) (bytes : List ℕ) (last : ℕ) → packet_of bytes ≡ Ok (messages number ms) → LastOf number ms last →
       last ≡ last_of number ms
-  last-told [] bytes last e l = absurd (never-empty bytes e)
-  last-told (m ∷ ms) bytes last e l = l
+  last_told [] bytes last e l = absurd (never_empty bytes e)
+  last_told (m ∷ ms) bytes last e l = l
 
 -- a packet of the code that was read
 pub read_as : (p r : Packet) (bytes : List ℕ) → Ok (sent p) ≡ packet_of bytes → p ≡ r → Ok (sent r) ≡ packet_of bytes
@@ -154,14 +154,14 @@ module _ (f : Follower) (st : StartedOf) (is : f.state ≡ state.Started st) whe
 
   heard :
       (bytes : List ℕ) (r : Result Sent Refusal) → r ≡ packet_of bytes →
-      outcome (slots_of f) (model f) (packet bytes) ≡ on-packet (slots_of f) (started_as st (book_in f.runner) (held_in f.runner)) r
-  unfolding outcome while-started
+      outcome (slots_of f) (model f) (packet bytes) ≡ on_packet (slots_of f) (started_as st (book_in f.runner) (held_in f.runner)) r
+  unfolding outcome while_started
   heard bytes r p =
       ap (λ s. outcome (slots_of f) (modelled s (book_in f.runner) (held_in f.runner)) (packet bytes)) is
-      ∙ ap (on-packet (slots_of f) (started_as st (book_in f.runner) (held_in f.runner))) (sym p)
+      ∙ ap (on_packet (slots_of f) (started_as st (book_in f.runner) (held_in f.runner))) (sym p)
 
-  pub heard-refused : (bytes : List ℕ) (why : Refusal) → Err why ≡ packet_of bytes → outcome (slots_of f) (model f) (packet bytes) ≡ refused why
-  heard-refused bytes why p = heard bytes (Err why) p
+  pub heard_refused : (bytes : List ℕ) (why : Refusal) → Err why ≡ packet_of bytes → outcome (slots_of f) (model f) (packet bytes) ≡ refused why
+  heard_refused bytes why p = heard bytes (Err why) p
 
   module _ (bytes : List ℕ) (next : ℕ) (session : Session) (p : Ok (heartbeat next session) ≡ packet_of bytes) where
     beaten :
@@ -180,41 +180,41 @@ module _ (f : Follower) (st : StartedOf) (is : f.state ≡ state.Started st) whe
         (refused refusal.OtherSession))
         a
 
-    pub heard-other : agrees st.session session ≡ false → outcome (slots_of f) (model f) (packet bytes) ≡ refused refusal.OtherSession
-    heard-other a = beaten false a
+    pub heard_other : agrees st.session session ≡ false → outcome (slots_of f) (model f) (packet bytes) ≡ refused refusal.OtherSession
+    heard_other a = beaten false a
 
   -- a heartbeat: the highest number, and where the follower stands
   module _ (bytes : List ℕ) (next : ℕ) (session : Session) (p : Ok (heartbeat next session) ≡ packet_of bytes)
       (less k : ℕ) (e : less ≡ next - 1) (t : k ≡ max st.marks.highest less)
       (x : Reached) (q : x ≡ reached_at st.marks.wanted) where
-    pub heard-beat :
+    pub heard_beat :
         agrees st.session session ≡ true →
         outcome (slots_of f) (model f) (packet bytes) ≡ accepted (settled (Some session) k (place_in f.runner x)) (counted no_counts)
-    heard-beat a =
+    heard_beat a =
         beaten bytes next session p true a
         ∙ ap (λ i. accepted (settled (Some session) i (place_in f.runner (reached_at st.marks.wanted))) (counted no_counts))
         (sym (t ∙ ap (max st.marks.highest) (e ∙ sub-one next)))
         ∙ ap (λ y. accepted (settled (Some session) k (place_in f.runner y)) (counted no_counts)) (sym q)
 
-    pub beat-bounded : bounded_by x k ≡ true
-    beat-bounded =
-        let n : next ≤ most32 = beat-within next session bytes (sym p) in
+    pub beat_bounded : bounded_by x k ≡ true
+    beat_bounded =
+        let n : next ≤ most32 = beat_within next session bytes (sym p) in
         let h : st.marks.highest ≤ most32 = highest_within st.marks.wanted st.marks.highest st.marks.bounded in
         by_history (slots_of f) (model f) (bounded_by x k) f.reached
         (λ r.
         bounded f.runner x k (omega arith)
         (subst (λ y. Shape k (place_in f.runner y)) (sym q)
-        (shape_up (place_in f.runner (reached_at st.marks.wanted)) st.marks.highest k (omega arith) (started-shape (slots_of f) f.runner f.state st is r))))
+        (shape_up (place_in f.runner (reached_at st.marks.wanted)) st.marks.highest k (omega arith) (started_shape (slots_of f) f.runner f.state st is r))))
 
   -- data: the highest number, and where the messages lead from there
   module _ (bytes : List ℕ) (number : ℕ) (ms : List (List ℕ)) (p : Ok (messages number ms) ≡ packet_of bytes)
       (last k : ℕ) (e : LastOf number ms last) (t : k ≡ max st.marks.highest last)
       (x : Reached) (q : x ≡ reached_at st.marks.wanted)
       (behind : Runner) (y : Reached) (r : place_in behind y ≡ place_after (slots_of f) (place_in f.runner x) number ms) where
-    pub heard-data :
+    pub heard_data :
         (counts : Counts) → counts ≡ counts_of (slots_of f) (place_in f.runner x) number ms →
         outcome (slots_of f) (model f) (packet bytes) ≡ accepted (settled st.session k (place_in behind y)) (counted counts)
-    heard-data counts n =
+    heard_data counts n =
         heard bytes (Ok (messages number ms)) p
         ∙ ap
         (λ o.
@@ -223,20 +223,20 @@ module _ (f : Follower) (st : StartedOf) (is : f.state ≡ state.Started st) whe
         (stood ∙ ap (place_in f.runner) (sym q))
         ∙ ap
         (λ i. accepted (settled st.session i (place_after (slots_of f) (place_in f.runner x) number ms)) (counted (counts_of (slots_of f) (place_in f.runner x) number ms)))
-        (sym (t ∙ ap (max st.marks.highest) (last-told number ms bytes last (sym p) e)))
+        (sym (t ∙ ap (max st.marks.highest) (last_told number ms bytes last (sym p) e)))
         ∙ ap (λ o. accepted (settled st.session k o) (counted (counts_of (slots_of f) (place_in f.runner x) number ms))) (sym r)
         ∙ ap (λ o. accepted (settled st.session k (place_in behind y)) (counted o)) (sym n)
 
-    pub data-bounded : last ≤ most32 → bounded_by y k ≡ true
-    data-bounded m =
+    pub data_bounded : last ≤ most32 → bounded_by y k ≡ true
+    data_bounded m =
         let h : st.marks.highest ≤ most32 = highest_within st.marks.wanted st.marks.highest st.marks.bounded in
-        let l : last ≡ last_of number ms = last-told number ms bytes last (sym p) e in
+        let l : last ≡ last_of number ms = last_told number ms bytes last (sym p) e in
         let c : number + length ms ≤ suc (last_of number ms) = last_covers number ms in
         let d : number + length ms ≤ suc last = subst (λ i. number + length ms ≤ suc i) (sym l) c in
         by_history (slots_of f) (model f) (bounded_by y k) f.reached
         (λ h'.
         bounded behind y k (omega arith)
         (subst (Shape k) (sym r)
-        (place-after-shape (slots_of f) ms (place_in f.runner x) k number (number-from-one number ms bytes (sym p)) (omega arith)
+        (place_after_shape (slots_of f) ms (place_in f.runner x) k number (number_from_one number ms bytes (sym p)) (omega arith)
         (subst (λ z. Shape k (place_in f.runner z)) (sym q)
-        (shape_up (place_in f.runner (reached_at st.marks.wanted)) st.marks.highest k (omega arith) (started-shape (slots_of f) f.runner f.state st is h'))))))
+        (shape_up (place_in f.runner (reached_at st.marks.wanted)) st.marks.highest k (omega arith) (started_shape (slots_of f) f.runner f.state st is h'))))))

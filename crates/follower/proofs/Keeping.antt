@@ -27,7 +27,7 @@ use Rattle.following.specs.Calls.{
   repaired,
 }
 use Rattle.following.specs.Follower.{outcome, moved}
-use Rattle.following.specs.Days.{Day, reached, whole_run, after, since, highest-in, All-belong}
+use Rattle.following.specs.Days.{Day, reached, whole_run, after, since, highest_in, AllBelong}
 use Rattle.following.specs.Law.{held_of, missing, Covers, Right, Refuses, Mends, Promise}
 use Rattle.following.specs.declared.answers.Ending.TheVariants as ending
 use Rattle.following.proofs.Promises.{law}
@@ -52,14 +52,14 @@ module _ (room : Room) (seen : Seen) (history : List Call) (led : after room his
   unfolding after
   leads c s = ap (λ x. moved (outcome room x c) x) led ∙ sym s.state
 
-  own-lamp : (day : Day) → Shown room show_lamp seen → Own room day show_lamp seen
-  own-lamp day s = s.answer ∙ ap answer_of (here show_lamp _ (lamp_is_shown room history)) ∙ ap (λ x. Ok (answer.Lamp (lamp_of x))) led
+  own_lamp : (day : Day) → Shown room show_lamp seen → Own room day show_lamp seen
+  own_lamp day s = s.answer ∙ ap answer_of (here show_lamp _ (lamp_is_shown room history)) ∙ ap (λ x. Ok (answer.Lamp (lamp_of x))) led
 
-  green-answers : (day : Day) (q : Question) → Shown room (ask q) seen → All-belong room day (since room history) → (n : ℕ) → lamp_of seen.before ≡ lamp.Green n → Answers room day seen q n
-  green-answers day q s ok n g =
-      let r = (law room history day ok).green-right n (ap lamp_of led ∙ g) in
+  green_answers : (day : Day) (q : Question) → Shown room (ask q) seen → AllBelong room day (since room history) → (n : ℕ) → lamp_of seen.before ≡ lamp.Green n → Answers room day seen q n
+  green_answers day q s ok n g =
+      let r = (law room history day ok).green_right n (ap lamp_of led ∙ g) in
       let o = here (ask q) _ (r.asks q) ∙ ap (λ x. told x (answered r.book q)) led in
-      let m : pred n ≡ highest-in room (since room history) = omega (arith, r.last) in
+      let m : pred n ≡ highest_in room (since room history) = omega (arith, r.last) in
       record {
         book = r.book;
         run = ap (whole_run room.for_book day) m ∙ r.run;
@@ -72,9 +72,9 @@ module _ (room : Room) (seen : Seen) (history : List Call) (led : after room his
   refuses q s (inr (inl e)) = (inr (inl (s.answer ∙ ap answer_of e)), s.rows ∙ ap (λ x. rows_after x seen.rows) e)
   refuses q s (inr (inr e)) = (inr (inr (s.answer ∙ ap answer_of e)), s.rows ∙ ap (λ x. rows_after x seen.rows) e)
 
-  no_answer : (day : Day) (q : Question) → Shown room (ask q) seen → All-belong room day (since room history) → ((n : ℕ) → lamp_of seen.before ≡ lamp.Green n → ⊥) → Refused seen
+  no_answer : (day : Day) (q : Question) → Shown room (ask q) seen → AllBelong room day (since room history) → ((n : ℕ) → lamp_of seen.before ≡ lamp.Green n → ⊥) → Refused seen
   no_answer day q s ok g =
-      refuses q s (subst (λ x. Refuses room x q) led ((law room history day ok).no-book (λ n e. g n (ap lamp_of (sym led) ∙ e)) q))
+      refuses q s (subst (λ x. Refuses room x q) led ((law room history day ok).no_book (λ n e. g n (ap lamp_of (sym led) ∙ e)) q))
 
   mends :
       (source : Meaning) (budget k n : ℕ) → Shown room (repair source budget) seen → Mends room seen.before source budget k n → MendedAll seen k n
@@ -93,7 +93,7 @@ module _ (room : Room) (seen : Seen) (history : List Call) (led : after room his
           inl (said ∙ ap (λ h. Ok (answer.Repaired m.fetched h)) e.0 ∙ ap (λ f. Ok (answer.Repaired f ending.Green)) e.1, ap lamp_of state ∙ e.2)
       go (inr e) = inr (m.fetched, e.1.0, e.1.1, said ∙ ap (λ h. Ok (answer.Repaired m.fetched h)) e.0, state ∙ e.1.2)
 
-  own : (day : Day) (c : Call) → Shown room c seen → All-belong room day (since room history) → Own room day c seen
+  own : (day : Day) (c : Call) → Shown room c seen → AllBelong room day (since room history) → Own room day c seen
   own day start_at_one s ok = tt
   own day start_by_snapshot s ok = tt
   own day stop s ok = tt
@@ -102,9 +102,9 @@ module _ (room : Room) (seen : Seen) (history : List Call) (led : after room his
   own day (repair source budget) s ok = λ w k g ours cov enough.
       mends source budget k (missing (held_of seen.before) w (suc k - w)) s
       (subst (λ x. (w k : ℕ) → lamp_of x ≡ lamp.Gap w k → Covers source w k (held_of x) → missing (held_of x) w (suc k - w) ≤ budget → Mends room x source budget k (missing (held_of x) w (suc k - w))) led
-      (λ w k g cov enough. (law room history day ok).gap-mends w k g source budget ours cov enough) w k g cov enough)
-  own day show_lamp s ok = own-lamp day s
-  own day (ask q) s ok = (green-answers day q s ok, no_answer day q s ok)
+      (λ w k g cov enough. (law room history day ok).gap_mends w k g source budget ours cov enough) w k g cov enough)
+  own day show_lamp s ok = own_lamp day s
+  own day (ask q) s ok = (green_answers day q s ok, no_answer day q s ok)
 
 pub kept : (room : Room) (c : Call) (seen : Seen) → Shown room c seen → Kept room c seen
 kept room c seen s history led =

@@ -15,13 +15,13 @@ use Rattle.following.specs.Follower.{
   agrees,
   settled,
   mended,
-  on-mended,
-  unless-waiting,
-  on-repair,
+  on_mended,
+  unless_waiting,
+  on_repair,
   outcome,
-  while-started,
+  while_started,
 }
-use Rattle.following.proofs.Shapes.{Shape, mended-shape}
+use Rattle.following.proofs.Shapes.{Shape, mended_shape}
 use Rattle.running.specs.Runners.{place_in, book_in, held_in, mended_in}
 use Rattle.running.specs.declared.moves.Reached.{Reached}
 use Rattle.running.specs.declared.moves.Repair.{Repair}
@@ -33,10 +33,10 @@ use Rattle.follower.specs.Marks.{marked}
 use Rattle.follower.specs.Modelled.{modelled, wanting_at, Reachable}
 use Rattle.follower.specs.Steps.{reached_at, bounded_by}
 use Rattle.follower.proofs.Reaching.{by_history, stands, bounded}
-use Rattle.follower.proofs.Started.{started_as, highest_within, started-shape}
+use Rattle.follower.proofs.Started.{started_as, highest_within, started_shape}
 
 unless_not :
-    (room : Room) (l : Lamp) (o : Outcome) → (l ≡ lamp.Waiting → ⊥) → unless-waiting room l o ≡ o
+    (room : Room) (l : Lamp) (o : Outcome) → (l ≡ lamp.Waiting → ⊥) → unless_waiting room l o ≡ o
 unless_not room lamp.Waiting o n = absurd (n refl)
 unless_not room lamp.Dark o n = refl
 unless_not room (lamp.Red k cause) o n = refl
@@ -51,48 +51,48 @@ module _ (room : Room) (runner : Runner) (s : StateOf) (x : StartedOf) (m : Mean
   unfolding lamp_of
   shows = ap (λ y. lamp_of (modelled y (book_in runner) (held_in runner))) e
 
-  repairs : outcome room Before (repair m budget) ≡ on-repair room (started_as x (book_in runner) (held_in runner)) m budget
-  unfolding outcome while-started
+  repairs : outcome room Before (repair m budget) ≡ on_repair room (started_as x (book_in runner) (held_in runner)) m budget
+  unfolding outcome while_started
   repairs = ap (λ y. outcome room (modelled y (book_in runner) (held_in runner)) (repair m budget)) e
 
   -- what is mended where the session agrees
   abbrev Tried : Outcome
   Tried =
-      on-mended room m.session x.marks.highest
+      on_mended room m.session x.marks.highest
       (mended room m.held x.marks.highest budget (place_of (wanting_at x.marks.wanted (book_in runner)) (held_in runner)))
 
   agreed :
       (t : Bool) → agrees x.session m.session ≡ t →
       outcome room Before (repair m budget)
-      ≡ cond t (unless-waiting room (lamp_at (wanting_at x.marks.wanted (book_in runner)) x.heard x.marks.highest) Tried) (refused refusal.OtherSession)
+      ≡ cond t (unless_waiting room (lamp_at (wanting_at x.marks.wanted (book_in runner)) x.heard x.marks.highest) Tried) (refused refusal.OtherSession)
   agreed t a =
       repairs
-      ∙ ap (λ u. cond u (unless-waiting room (lamp_at (wanting_at x.marks.wanted (book_in runner)) x.heard x.marks.highest) Tried) (refused refusal.OtherSession)) a
+      ∙ ap (λ u. cond u (unless_waiting room (lamp_at (wanting_at x.marks.wanted (book_in runner)) x.heard x.marks.highest) Tried) (refused refusal.OtherSession)) a
 
   -- the wanted number stays within its bound
-  pub mended-bounded :
+  pub mended_bounded :
       (from : Reached) (after : Runner) (done : Repair) → from ≡ reached_at x.marks.wanted →
       mended_in after done ≡ mended room m.held x.marks.highest budget (place_in runner from) →
       ∥ Reachable room Before ∥₁ → bounded_by done.reached x.marks.highest ≡ true
-  mended-bounded from after done at ran k =
+  mended_bounded from after done at ran k =
       by_history room Before (bounded_by done.reached x.marks.highest) k
       (λ r. bounded after done.reached x.marks.highest (highest_within x.marks.wanted x.marks.highest x.marks.bounded)
       (subst (λ z. Shape x.marks.highest z.place) (sym ran)
-      (mended-shape room m.held x.marks.highest budget (place_in runner from)
-      (subst (λ z. Shape x.marks.highest (place_in runner z)) (sym at) (started-shape room runner s x e r)))))
+      (mended_shape room m.held x.marks.highest budget (place_in runner from)
+      (subst (λ z. Shape x.marks.highest (place_in runner z)) (sym at) (started_shape room runner s x e r)))))
 
   module _ (session : Session) (same : session ≡ m.session) (t : Bool) (a : t ≡ agrees x.session session) where
-    pub other-session : t ≡ false → outcome room Before (repair m budget) ≡ refused refusal.OtherSession
-    other-session q = agreed false (ap (agrees x.session) (sym same) ∙ sym a ∙ q)
+    pub other_session : t ≡ false → outcome room Before (repair m budget) ≡ refused refusal.OtherSession
+    other_session q = agreed false (ap (agrees x.session) (sym same) ∙ sym a ∙ q)
 
     module _ (q : t ≡ true) (l : Lamp) (shown : l ≡ lamp_of Before) where
       goes_on :
           outcome room Before (repair m budget)
-          ≡ unless-waiting room (lamp_at (wanting_at x.marks.wanted (book_in runner)) x.heard x.marks.highest) Tried
+          ≡ unless_waiting room (lamp_at (wanting_at x.marks.wanted (book_in runner)) x.heard x.marks.highest) Tried
       goes_on = agreed true (ap (agrees x.session) (sym same) ∙ sym a ∙ q)
 
       pub waits : l ≡ lamp.Waiting → outcome room Before (repair m budget) ≡ refused refusal.Waiting
-      waits w = goes_on ∙ ap (λ y. unless-waiting room y Tried) (sym shows ∙ sym shown ∙ w)
+      waits w = goes_on ∙ ap (λ y. unless_waiting room y Tried) (sym shows ∙ sym shown ∙ w)
 
       -- the code's repair
       pub mends :
@@ -104,7 +104,7 @@ module _ (room : Room) (runner : Runner) (s : StateOf) (x : StartedOf) (m : Mean
           goes_on
           ∙ unless_not room (lamp_at (wanting_at x.marks.wanted (book_in runner)) x.heard x.marks.highest) Tried
           (λ w. n (shown ∙ shows ∙ w))
-          ∙ ap (λ p. on-mended room m.session x.marks.highest (mended room m.held x.marks.highest budget p))
+          ∙ ap (λ p. on_mended room m.session x.marks.highest (mended room m.held x.marks.highest budget p))
           (stands runner x.marks.wanted ∙ ap (place_in runner) (sym at))
-          ∙ ap (on-mended room m.session x.marks.highest) (sym ran)
-          ∙ ap (λ y. on-mended room y x.marks.highest (mended_in after done)) (sym same)
+          ∙ ap (on_mended room m.session x.marks.highest) (sym ran)
+          ∙ ap (λ y. on_mended room y x.marks.highest (mended_in after done)) (sym same)

@@ -6,7 +6,7 @@ use Rattle.source.specs.Pairs.{same_session}
 use Rattle.book.specs.Plain.{Plain, empty}
 use Rattle.following.specs.States.{Room, Held, State, dark, started, begun, from_one}
 use Rattle.following.specs.Calls.{Call, start_at_one, start_by_snapshot, stop, Reply, done, Outcome, refused, accepted}
-use Rattle.following.specs.Follower.{agrees, settled, outcome, while-dark, while-red, while-started, moved}
+use Rattle.following.specs.Follower.{agrees, settled, outcome, while_dark, while_red, while_started, moved}
 use Rattle.running.specs.Runners.{place_in, book_in, held_in}
 use Rattle.running.specs.declared.moves.Reached.{Reached}
 use Rattle.running.specs.declared.runner.Runner.{Runner}
@@ -32,16 +32,16 @@ came_refused before after o why r e m a s =
     record { state = m ∙ ap (λ x. moved x (model before)) (sym e); answer = a ∙ ap answer_of (sym e); room = s }
 
 module _ (room : Room) (book : Plain) (held : List Held) where
-  pub starts-at-one : (s : StateOf) → s ≡ state.Dark → outcome room (modelled s book held) start_at_one ≡ accepted (begun from_one) done
-  unfolding outcome while-dark
-  starts-at-one s e = ap (λ x. outcome room (modelled x book held) start_at_one) e
+  pub starts_at_one : (s : StateOf) → s ≡ state.Dark → outcome room (modelled s book held) start_at_one ≡ accepted (begun from_one) done
+  unfolding outcome while_dark
+  starts_at_one s e = ap (λ x. outcome room (modelled x book held) start_at_one) e
 
-  pub starts-by-snapshot : (s : StateOf) → s ≡ state.Dark → outcome room (modelled s book held) start_by_snapshot ≡ accepted (begun None) done
-  unfolding outcome while-dark
-  starts-by-snapshot s e = ap (λ x. outcome room (modelled x book held) start_by_snapshot) e
+  pub starts_by_snapshot : (s : StateOf) → s ≡ state.Dark → outcome room (modelled s book held) start_by_snapshot ≡ accepted (begun None) done
+  unfolding outcome while_dark
+  starts_by_snapshot s e = ap (λ x. outcome room (modelled x book held) start_by_snapshot) e
 
   pub stops : (s : StateOf) → (s ≡ state.Dark → ⊥) → outcome room (modelled s book held) stop ≡ accepted dark done
-  unfolding outcome while-red while-started
+  unfolding outcome while_red while_started
   stops state.Dark n = absurd (n refl)
   stops (state.Red k c) n = refl
   stops (state.Started s) n = refl

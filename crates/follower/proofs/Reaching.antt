@@ -7,7 +7,7 @@ use Rattle.wire.specs.Numbers.{most32}
 use Rattle.following.specs.States.{Room, Started, State, started}
 use Rattle.following.specs.Calls.{Call}
 use Rattle.following.specs.Follower.{place_of, outcome, moved}
-use Rattle.following.specs.Days.{after, since, highest-in}
+use Rattle.following.specs.Days.{after, since, highest_in}
 use Rattle.following.proofs.Shapes.{Shape}
 use Rattle.following.proofs.Standing.{Tidy, tidy}
 use Rattle.running.specs.Runners.{place_in, book_in, held_in}
@@ -31,7 +31,7 @@ by_history room s b k f = ∥∥₁_elim k (Bool-set b true) f
 
 -- a started follower is in order
 pub in_order : (room : Room) (st : Started) → Reachable room (started st) → Shape st.highest (place_of st.book st.held)
-in_order room st r = (subst (Tidy (highest-in room (since room r.0))) r.1 (tidy room r.0)).1
+in_order room st r = (subst (Tidy (highest_in room (since room r.0))) r.1 (tidy room r.0)).1
 
 -- where a started follower stands
 pub stands : (runner : Runner) (wanted : Option ℕ) → place_of (wanting_at wanted (book_in runner)) (held_in runner) ≡ place_in runner (reached_at wanted)

@@ -20,15 +20,15 @@ use Rattle.following.specs.Follower.{
   of_mode,
   completed,
   opened,
-  snapshot-of,
-  on-snapshot,
-  run-held,
+  snapshot_of,
+  on_snapshot,
+  run_held,
   outcome,
-  while-started,
+  while_started,
 }
 use Rattle.following.proofs.Shapes.{Shape}
 use Rattle.following.proofs.Standing.{snapshot_shape}
-use Rattle.following.proofs.Readings.{snapshot-next}
+use Rattle.following.proofs.Readings.{snapshot_next}
 use Rattle.running.specs.Runners.{room_of, place_in, book_in, held_in, snapshot_with}
 use Rattle.running.specs.declared.moves.Reached.{Reached}
 use Rattle.running.specs.declared.runner.Runner.{Runner}
@@ -38,7 +38,7 @@ use Rattle.follower.specs.declared.state.State.TheVariants as state
 use Rattle.follower.specs.Modelled.{modelled, wanting_at, Reachable}
 use Rattle.follower.specs.Steps.{bounded_by}
 use Rattle.follower.proofs.Reaching.{by_history, bounded}
-use Rattle.follower.proofs.Started.{started_as, highest_within, started-order}
+use Rattle.follower.proofs.Started.{started_as, highest_within, started_order}
 
 wants : (wanted : Option ℕ) (book : Plain) → is_some (wanting_at wanted book) ≡ is_some wanted
 wants None book = refl
@@ -56,23 +56,23 @@ module _ (room : Room) (runner : Runner) (s : StateOf) (x : StartedOf) (bytes : 
   snapshots :
       (t : Bool) → is_some x.marks.wanted ≡ t →
       outcome room Before (snapshot bytes)
-      ≡ cond t (refused refusal.HasBook) (on-snapshot room (started_as x (book_in runner) (held_in runner)) (snapshot-of room x.session bytes))
-  unfolding outcome while-started
+      ≡ cond t (refused refusal.HasBook) (on_snapshot room (started_as x (book_in runner) (held_in runner)) (snapshot_of room x.session bytes))
+  unfolding outcome while_started
   snapshots t q =
       ap (λ y. outcome room (modelled y (book_in runner) (held_in runner)) (snapshot bytes)) e
-      ∙ ap (λ u. cond u (refused refusal.HasBook) (on-snapshot room (started_as x (book_in runner) (held_in runner)) (snapshot-of room x.session bytes)))
+      ∙ ap (λ u. cond u (refused refusal.HasBook) (on_snapshot room (started_as x (book_in runner) (held_in runner)) (snapshot_of room x.session bytes)))
       (wants x.marks.wanted (book_in runner) ∙ q)
 
-  pub has-book : (t : Bool) → t ≡ is_some x.marks.wanted → t ≡ true → outcome room Before (snapshot bytes) ≡ refused refusal.HasBook
-  has-book t q y = snapshots true (sym q ∙ y)
+  pub has_book : (t : Bool) → t ≡ is_some x.marks.wanted → t ≡ true → outcome room Before (snapshot bytes) ≡ refused refusal.HasBook
+  has_book t q y = snapshots true (sym q ∙ y)
 
   module _ (none : is_some x.marks.wanted ≡ false) where
     -- the bytes do not open
     pub not_opened :
         (why : Refusal) → ((room : Room) → opened room x.session (of_mode (opening (session_messages bytes))) ≡ Err why) →
         outcome room Before (snapshot bytes) ≡ refused why
-    unfolding snapshot-of
-    not_opened why q = snapshots false none ∙ ap (on-snapshot room (started_as x (book_in runner) (held_in runner))) (q room)
+    unfolding snapshot_of
+    not_opened why q = snapshots false none ∙ ap (on_snapshot room (started_as x (book_in runner) (held_in runner))) (q room)
 
     -- a loaded book does not show
     pub unshown : (after : Runner) → held_in after ≡ held_in runner → modelled s (book_in after) (held_in after) ≡ Before
@@ -90,8 +90,8 @@ module _ (room : Room) (runner : Runner) (s : StateOf) (x : StartedOf) (bytes : 
           (session : Session) →
           through (snapshot_with session (book_in after)) r ≡ completed session (run_there room.for_book (still_carried messages) empty)
 
-      loads : (r : Result ℕ Refusal) → Loads r → snapshot-of room x.session bytes ≡ through (snapshot_with o.session (book_in after)) r
-      unfolding snapshot-of
+      loads : (r : Result ℕ Refusal) → Loads r → snapshot_of room x.session bytes ≡ through (snapshot_with o.session (book_in after)) r
+      unfolding snapshot_of
       loads r l =
           ap (opened room x.session) opens
           ∙ ap (λ t. cond t (completed o.session (run_there room.for_book (carried (rest_of o.messages)) empty)) (Err refusal.OtherSession)) same
@@ -100,38 +100,38 @@ module _ (room : Room) (runner : Runner) (s : StateOf) (x : StartedOf) (bytes : 
 
       -- a cause stops it, or it is cut
       pub unloaded : (why : Refusal) → Loads (Err why) → outcome room Before (snapshot bytes) ≡ refused why
-      unloaded why l = snapshots false none ∙ ap (on-snapshot room (started_as x (book_in runner) (held_in runner))) (loads (Err why) l)
+      unloaded why l = snapshots false none ∙ ap (on_snapshot room (started_as x (book_in runner) (held_in runner))) (loads (Err why) l)
 
       module _ (next : ℕ) (l : Loads (Ok next)) where
-        pub next-within : next ≤ most32
-        next-within = (snapshot-next room (snapshot_with o.session (book_in after) next) x.session bytes (loads (Ok next) l)).1
+        pub next_within : next ≤ most32
+        next_within = (snapshot_next room (snapshot_with o.session (book_in after) next) x.session bytes (loads (Ok next) l)).1
 
         -- the code's completed snapshot
         module _ (stay : room_of after ≡ room) (h : held_in after ≡ held_in runner) (last : Runner) (to : Reached)
-            (ran : place_in last to ≡ run-held (room_of after) (book_in after) next (held_from next (held_in after)))
+            (ran : place_in last to ≡ run_held (room_of after) (book_in after) next (held_from next (held_in after)))
             (k : ℕ) (top : k ≡ max x.marks.highest (pred next)) where
-          led : run-held room (book_in after) next (held_from next (held_in runner)) ≡ place_in last to
+          led : run_held room (book_in after) next (held_from next (held_in runner)) ≡ place_in last to
           led =
-              ap (λ hs. run-held room (book_in after) next (held_from next hs)) (sym h)
-              ∙ ap (λ y. run-held y (book_in after) next (held_from next (held_in after))) (sym stay)
+              ap (λ hs. run_held room (book_in after) next (held_from next hs)) (sym h)
+              ∙ ap (λ y. run_held y (book_in after) next (held_from next (held_in after))) (sym stay)
               ∙ sym ran
 
           pub takes : outcome room Before (snapshot bytes) ≡ accepted (settled (Some o.session) k (place_in last to)) (snapshot_taken next)
           takes =
               snapshots false none
-              ∙ ap (on-snapshot room (started_as x (book_in runner) (held_in runner))) (loads (Ok next) l)
+              ∙ ap (on_snapshot room (started_as x (book_in runner) (held_in runner))) (loads (Ok next) l)
               ∙ ap (λ p. accepted (settled (Some o.session) (max x.marks.highest (pred next)) p) (snapshot_taken next)) led
               ∙ ap (λ i. accepted (settled (Some o.session) i (place_in last to)) (snapshot_taken next)) (sym top)
 
           -- the wanted number stays within its bound
-          pub taken-bounded : ∥ Reachable room Before ∥₁ → bounded_by to k ≡ true
-          taken-bounded reached =
+          pub taken_bounded : ∥ Reachable room Before ∥₁ → bounded_by to k ≡ true
+          taken_bounded reached =
               by_history room Before (bounded_by to k) reached
               (λ r.
               let m = highest_within x.marks.wanted x.marks.highest x.marks.bounded in
-              let n = next-within in
+              let n = next_within in
               bounded last to k (omega arith)
               (subst (λ i. Shape i (place_in last to)) (sym top)
               (subst (Shape (max x.marks.highest (pred next))) led
               (snapshot_shape room (started_as x (book_in runner) (held_in runner)) (snapshot_with o.session (book_in after) next)
-              (started-order room runner s x e r)))))
+              (started_order room runner s x e r)))))

@@ -28,9 +28,9 @@ highest_within (Some w) k q = leb-true k most32 (and_parts (leb w (suc k)) (leb 
 
 -- a started follower that some history leads to is in order
 module _ (room : Room) (runner : Runner) (s : StateOf) (x : StartedOf) (e : s ≡ state.Started x) (r : Reachable room (modelled s (book_in runner) (held_in runner))) where
-  pub started-order : Shape x.marks.highest (place_of (wanting_at x.marks.wanted (book_in runner)) (held_in runner))
-  started-order =
+  pub started_order : Shape x.marks.highest (place_of (wanting_at x.marks.wanted (book_in runner)) (held_in runner))
+  started_order =
       in_order room (started_as x (book_in runner) (held_in runner)) (r.0, r.1 ∙ ap (λ y. modelled y (book_in runner) (held_in runner)) e)
 
-  pub started-shape : Shape x.marks.highest (place_in runner (reached_at x.marks.wanted))
-  started-shape = subst (Shape x.marks.highest) (stands runner x.marks.wanted) started-order
+  pub started_shape : Shape x.marks.highest (place_in runner (reached_at x.marks.wanted))
+  started_shape = subst (Shape x.marks.highest) (stands runner x.marks.wanted) started_order

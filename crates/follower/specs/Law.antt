@@ -23,7 +23,7 @@ use Rattle.following.specs.Calls.{
   answered,
   lamp_shown,
 }
-use Rattle.following.specs.Days.{Day, reached, whole_run, after, since, All-belong}
+use Rattle.following.specs.Days.{Day, reached, whole_run, after, since, AllBelong}
 use Rattle.following.specs.Law.{held_of, missing, Covers, Promise}
 use Rattle.following.specs.declared.answers.Ending.TheVariants as ending
 use Rattle.follower.specs.declared.call.Answer.{Answer}
@@ -82,5 +82,5 @@ Kept room c seen =
     (history : List Call) → after room history ≡ seen.before
     → (after room (c ∷ history) ≡ seen.behind)
     × ((day : Day)
-    → (All-belong room day (since room (c ∷ history)) → Promise room (c ∷ history) day)
-    × (All-belong room day (since room history) → Own room day c seen))
+    → (AllBelong room day (since room (c ∷ history)) → Promise room (c ∷ history) day)
+    × (AllBelong room day (since room history) → Own room day c seen))

@@ -32,24 +32,24 @@ use Rattle.following.specs.Follower.{
   agrees,
   settled,
   going_on,
-  run-held,
-  run-wanted,
+  run_held,
+  run_wanted,
   Mended,
   ends,
   fetching,
   mended,
-  unless-waiting,
-  while-started,
-  while-dark,
-  while-red,
+  unless_waiting,
+  while_started,
+  while_dark,
+  while_red,
   outcome,
 }
-use Rattle.following.specs.Days.{after, since, highest-in}
+use Rattle.following.specs.Days.{after, since, highest_in}
 use Rattle.following.specs.Law.{HonestRepair, RepairsAreHonest, missing_at, missing_of, FetchesWhatIsMissing}
 use Rattle.following.specs.declared.answers.Ending.{Ending}
 use Rattle.following.specs.declared.answers.Ending.TheVariants as ending
 use Rattle.following.proofs.Held.{missing_count}
-use Rattle.following.proofs.Shapes.{Shape, mended-shape}
+use Rattle.following.proofs.Shapes.{Shape, mended_shape}
 use Rattle.following.proofs.Standing.{Tidy, tidy}
 
 module _ (room : Room) (source : Meaning) (k : ℕ) where
@@ -59,25 +59,25 @@ module _ (room : Room) (source : Meaning) (k : ℕ) where
   Reach n (wanting b hs) = b.wanted + length hs ≡ n
   Reach n (stopped i c) = Unit {0}
 
-  run-held-reach : (hs : List Held) (b : Plain) (w n : ℕ) → w + length hs ≡ n → Reach n (run-held room b w hs)
-  unfolding run-held
-  run-held-reach [] b w n e = e
-  run-held-reach (h ∷ hs) b w n e =
-      go (eqb h.number w) (ran room.for_book b h.bytes) (λ b'. run-held-reach hs b' (suc w) n (omega arith))
+  run_held_reach : (hs : List Held) (b : Plain) (w n : ℕ) → w + length hs ≡ n → Reach n (run_held room b w hs)
+  unfolding run_held
+  run_held_reach [] b w n e = e
+  run_held_reach (h ∷ hs) b w n e =
+      go (eqb h.number w) (ran room.for_book b h.bytes) (λ b'. run_held_reach hs b' (suc w) n (omega arith))
     where
       go :
-          (t : Bool) (r : Result Plain Cause) → ((b' : Plain) → Reach n (run-held room b' (suc w) hs)) →
-          Reach n (cond t (going_on w r (λ b'. run-held room b' (suc w) hs)) (wanting (record { book = b; wanted = w }) (h ∷ hs)))
+          (t : Bool) (r : Result Plain Cause) → ((b' : Plain) → Reach n (run_held room b' (suc w) hs)) →
+          Reach n (cond t (going_on w r (λ b'. run_held room b' (suc w) hs)) (wanting (record { book = b; wanted = w }) (h ∷ hs)))
       go false r ih = e
       go true (Ok b') ih = ih b'
       go true (Err c) ih = tt
 
-  run-wanted-reach : (hs : List Held) (b : Wanting) (n : ℕ) (x : List ℕ) → b.wanted + length hs ≡ n → Reach (suc n) (run-wanted room b x hs)
-  unfolding run-wanted
-  run-wanted-reach hs b n x e = go (ran room.for_book b.book x)
+  run_wanted_reach : (hs : List Held) (b : Wanting) (n : ℕ) (x : List ℕ) → b.wanted + length hs ≡ n → Reach (suc n) (run_wanted room b x hs)
+  unfolding run_wanted
+  run_wanted_reach hs b n x e = go (ran room.for_book b.book x)
     where
-      go : (r : Result Plain Cause) → Reach (suc n) (going_on b.wanted r (λ b'. run-held room b' (suc b.wanted) hs))
-      go (Ok b') = run-held-reach hs b' (suc b.wanted) (suc n) (omega arith)
+      go : (r : Result Plain Cause) → Reach (suc n) (going_on b.wanted r (λ b'. run_held room b' (suc b.wanted) hs))
+      go (Ok b') = run_held_reach hs b' (suc b.wanted) (suc n) (omega arith)
       go (Err c) = tt
 
   -- how a repair may end that has fetched f messages and wants w
@@ -104,39 +104,39 @@ module _ (room : Room) (source : Meaning) (k : ℕ) where
       go (inr (inl w)) = inr (inl (w.0, omega arith, w.2))
       go (inr (inr w)) = inr (inr w)
 
-  pub mended-told : (budget n : ℕ) (p : Place) → Reach n p → Told budget n (mended room source.held k budget p)
+  pub mended_told : (budget n : ℕ) (p : Place) → Reach n p → Told budget n (mended room source.held k budget p)
   unfolding mended
-  mended-told zero n (bookless hs) t = absurd t
-  mended-told zero n (stopped i c) t = (omega arith, refl)
-  mended-told zero n (wanting b hs) t = go (leb b.wanted k) refl
+  mended_told zero n (bookless hs) t = absurd t
+  mended_told zero n (stopped i c) t = (omega arith, refl)
+  mended_told zero n (wanting b hs) t = go (leb b.wanted k) refl
     where
       go : (u : Bool) → leb b.wanted k ≡ u → Told zero n (ends (wanting b hs) (cond u ending.Budget ending.Green))
       go true q = (omega arith, (omega arith, inr (inl (refl, refl, leb-true b.wanted k q))))
       go false q = (omega arith, (omega arith, inl (refl, leb-false b.wanted k q)))
-  mended-told (suc budget) n (bookless hs) t = absurd t
-  mended-told (suc budget) n (stopped i c) t = (omega arith, refl)
-  mended-told (suc budget) n (wanting b hs) t =
+  mended_told (suc budget) n (bookless hs) t = absurd t
+  mended_told (suc budget) n (stopped i c) t = (omega arith, refl)
+  mended_told (suc budget) n (wanting b hs) t =
       go (leb b.wanted k) refl (source.held b.wanted) refl
-      (λ x. mended-told budget (suc n) (run-wanted room b x hs) (run-wanted-reach hs b n x t))
+      (λ x. mended_told budget (suc n) (run_wanted room b x hs) (run_wanted_reach hs b n x t))
     where
       go :
           (u : Bool) → leb b.wanted k ≡ u → (o : Option (List ℕ)) → source.held b.wanted ≡ o →
-          ((x : List ℕ) → Told budget (suc n) (mended room source.held k budget (run-wanted room b x hs))) →
+          ((x : List ℕ) → Told budget (suc n) (mended room source.held k budget (run_wanted room b x hs))) →
           Told (suc budget) n
-          (cond u (fetching o (wanting b hs) (λ x. mended room source.held k budget (run-wanted room b x hs))) (ends (wanting b hs) ending.Green))
+          (cond u (fetching o (wanting b hs) (λ x. mended room source.held k budget (run_wanted room b x hs))) (ends (wanting b hs) ending.Green))
       go false q o r ih = (omega arith, (omega arith, inl (refl, leb-false b.wanted k q)))
       go true q None r ih = (omega arith, (omega arith, inr (inr (refl, leb-true b.wanted k q, r))))
       go true q (Some x) r ih =
-          let m = mended room source.held k budget (run-wanted room b x hs) in
+          let m = mended room source.held k budget (run_wanted room b x hs) in
           (omega (arith, (ih x).0), one_more budget n m.fetched m.place m.ending (ih x).1)
 
   gap_at : (b : Wanting) (s : Option Session) (hs : List Held) → b.wanted ≤ k → lamp_of (settled s k (wanting b hs)) ≡ lamp.Gap b.wanted k
   unfolding settled lamp_of
   gap_at b s hs l = rw (le-leb b.wanted k l) refl
 
-  green-at : (b : Wanting) (s : Option Session) (hs : List Held) → k < b.wanted → lamp_of (settled s k (wanting b hs)) ≡ lamp.Green b.wanted
+  green_at : (b : Wanting) (s : Option Session) (hs : List Held) → k < b.wanted → lamp_of (settled s k (wanting b hs)) ≡ lamp.Green b.wanted
   unfolding settled lamp_of
-  green-at b s hs l = rw (lt-leb b.wanted k l) refl
+  green_at b s hs l = rw (lt-leb b.wanted k l) refl
 
   honest :
       (s : Option Session) (budget n f : ℕ) (p : Place) (how : Ending) → f ≤ budget → Ended budget n f p how →
@@ -159,7 +159,7 @@ module _ (room : Room) (source : Meaning) (k : ℕ) where
           let h : how ≡ ending.Green = w.0 in
           record {
             within = l;
-            green = λ q. (b.wanted, green-at b s hs w.1);
+            green = λ q. (b.wanted, green_at b s hs w.1);
             stopped = λ q. let z : ◌≡◌ {A = ℕ} 0 1 = cc in absurd (omega arith);
             only_stopped = λ j d q. let z : ◌≡◌ {A = ℕ} 0 1 = cc in absurd (omega arith);
             spent = λ q. let z : ◌≡◌ {A = ℕ} 0 1 = cc in absurd (omega arith);
@@ -218,58 +218,58 @@ module _ (P : State → ℕ → Ending → Type 0) where
   So (refused why) = Unit {0}
   So (accepted next reply) = Replied next reply
 
-  when-agreed : (t : Bool) (o : Outcome) → So o → So (cond t o (refused refusal.OtherSession))
-  when-agreed true o a = a
-  when-agreed false o a = tt
+  when_agreed : (t : Bool) (o : Outcome) → So o → So (cond t o (refused refusal.OtherSession))
+  when_agreed true o a = a
+  when_agreed false o a = tt
 
   -- a repair without a book, or with nothing heard, is refused
-  with-book :
+  with_book :
       (room : Room) (b : Option Wanting) (heard : Bool) (k : ℕ) (o : Outcome) → ((v : Wanting) → b ≡ Some v → So o) →
-      So (unless-waiting room (lamp_at b heard k) o)
-  with-book room None heard k o a = tt
-  with-book room (Some b) false k o a = tt
-  with-book room (Some b) true k o a = go (leb b.wanted k)
+      So (unless_waiting room (lamp_at b heard k) o)
+  with_book room None heard k o a = tt
+  with_book room (Some b) false k o a = tt
+  with_book room (Some b) true k o a = go (leb b.wanted k)
     where
-      go : (t : Bool) → So (unless-waiting room (cond t (lamp.Gap b.wanted k) (lamp.Green b.wanted)) o)
+      go : (t : Bool) → So (unless_waiting room (cond t (lamp.Gap b.wanted k) (lamp.Green b.wanted)) o)
       go true = a b refl
       go false = a b refl
 
 module _ (room : Room) (source : Meaning) (budget : ℕ) where
   -- what a repair tells, from the place where it begins
   told : (k : ℕ) (b : Wanting) (hs : List Held) → Told room source k budget (b.wanted + length hs) (mended room source.held k budget (wanting b hs))
-  told k b hs = mended-told room source k budget (b.wanted + length hs) (wanting b hs) refl
+  told k b hs = mended_told room source k budget (b.wanted + length hs) (wanting b hs) refl
 
-  every-honest : (s : State) → So (HonestRepair source budget) (outcome room s (repair source budget))
-  unfolding outcome while-started while-dark while-red
-  every-honest dark = tt
-  every-honest (red k c) = tt
-  every-honest (started s) =
-      when-agreed (HonestRepair source budget) (agrees s.session source.session) _
-      (with-book (HonestRepair source budget) room s.book s.heard s.highest _
+  every_honest : (s : State) → So (HonestRepair source budget) (outcome room s (repair source budget))
+  unfolding outcome while_started while_dark while_red
+  every_honest dark = tt
+  every_honest (red k c) = tt
+  every_honest (started s) =
+      when_agreed (HonestRepair source budget) (agrees s.session source.session) _
+      (with_book (HonestRepair source budget) room s.book s.heard s.highest _
       (λ b e. rw e (honest room source s.highest (Some source.session) budget (b.wanted + length s.held) _ _ _
       (told s.highest b s.held).0 (told s.highest b s.held).1)))
 
   abbrev Fetched : ℕ → State → ℕ → Ending → Type 0
   Fetched before next fetched how = (how ≡ ending.Red → ⊥) → fetched + missing_of next ≡ before
 
-  every-fetched : (top : ℕ) (s : State) → Tidy top s → So (Fetched (missing_of s)) (outcome room s (repair source budget))
-  unfolding outcome while-started while-dark while-red
-  every-fetched top dark t = tt
-  every-fetched top (red k c) t = tt
-  every-fetched top (started s) t =
-      when-agreed (Fetched (missing_of (started s))) (agrees s.session source.session) _
-      (with-book (Fetched (missing_of (started s))) room s.book s.heard s.highest _
+  every_fetched : (top : ℕ) (s : State) → Tidy top s → So (Fetched (missing_of s)) (outcome room s (repair source budget))
+  unfolding outcome while_started while_dark while_red
+  every_fetched top dark t = tt
+  every_fetched top (red k c) t = tt
+  every_fetched top (started s) t =
+      when_agreed (Fetched (missing_of (started s))) (agrees s.session source.session) _
+      (with_book (Fetched (missing_of (started s))) room s.book s.heard s.highest _
       (λ b e.
       let o : Shape s.highest (wanting b s.held) = subst (λ x. Shape s.highest (place_of x s.held)) e t.1 in
       rw e
       (fetched_left room source (Some source.session) b s.held s.highest budget _ _ _ o
-      (mended-shape room source.held s.highest budget (wanting b s.held) o) (told s.highest b s.held).1)))
+      (mended_shape room source.held s.highest budget (wanting b s.held) o) (told s.highest b s.held).1)))
 
 pub repairs_are_honest : RepairsAreHonest
 repairs_are_honest room state next source budget fetched how e =
-    subst (So (HonestRepair source budget)) e (every-honest room source budget state)
+    subst (So (HonestRepair source budget)) e (every_honest room source budget state)
 
 pub fetches_what_is_missing : FetchesWhatIsMissing
 fetches_what_is_missing room history next source budget fetched how e =
     subst (So (Fetched room source budget (missing_of (after room history)))) e
-    (every-fetched room source budget (highest-in room (since room history)) (after room history) (tidy room history))
+    (every_fetched room source budget (highest_in room (since room history)) (after room history) (tidy room history))

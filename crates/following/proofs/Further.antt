@@ -29,14 +29,14 @@ use Rattle.following.specs.Follower.{
   no_counts,
   treated,
   counts_of,
-  on-packet,
-  while-started,
-  while-dark,
-  while-red,
+  on_packet,
+  while_started,
+  while_dark,
+  while_red,
   outcome,
   moved,
 }
-use Rattle.following.specs.Days.{after, since, highest-in}
+use Rattle.following.specs.Days.{after, since, highest_in}
 use Rattle.following.specs.Law.{
   RefusalsChangeNothing,
   message_count,
@@ -82,7 +82,7 @@ heartbeat_sum : (t : Bool) (after : State) → CountedTo 0 (cond t (accepted aft
 heartbeat_sum true after next c e = let same : no_counts ≡ c = cc in ap sum_of (sym same)
 heartbeat_sum false after next c e = let z : ◌≡◌ {A = ℕ} 0 1 = cc in absurd (omega arith)
 
-packet_sum : (room : Room) (s : Started) (r : Result Sent Refusal) → CountedTo (message_count r) (on-packet room s r)
+packet_sum : (room : Room) (s : Started) (r : Result Sent Refusal) → CountedTo (message_count r) (on_packet room s r)
 packet_sum room s (Err why) next c e = let z : ◌≡◌ {A = ℕ} 0 1 = cc in absurd (omega arith)
 packet_sum room s (Ok (heartbeat n session)) next c e = heartbeat_sum (agrees s.session session) _ next c e
 packet_sum room s (Ok (messages number ms)) next c e =
@@ -90,20 +90,20 @@ packet_sum room s (Ok (messages number ms)) next c e =
     ap sum_of (sym same) ∙ counts_sum room ms (place_of s.book s.held) number
 
 pub counts_add_up : CountsAddUp
-unfolding outcome while-started while-dark while-red
+unfolding outcome while_started while_dark while_red
 counts_add_up room dark next bytes c e = let z : ◌≡◌ {A = ℕ} 0 1 = cc in absurd (omega arith)
 counts_add_up room (red k cause) next bytes c e = let z : ◌≡◌ {A = ℕ} 0 1 = cc in absurd (omega arith)
 counts_add_up room (started s) next bytes c e = packet_sum room s (packet_of bytes) next c e
 
 pub wanted_bounded : WantedBounded
 wanted_bounded room history s b e f =
-    let t : Tidy (highest-in room (since room history)) (started s) = subst (Tidy (highest-in room (since room history))) e (tidy room history) in
+    let t : Tidy (highest_in room (since room history)) (started s) = subst (Tidy (highest_in room (since room history))) e (tidy room history) in
     let o : Shape s.highest (place_of (Some b) s.held) = subst (λ x. Shape s.highest (place_of x s.held)) f t.1 in
     o.0
 
 -- a stop leads to the dark, from every state
 stopped_dark : (room : Room) (s : State) → moved (outcome room s stop) s ≡ dark
-unfolding outcome while-started while-dark while-red
+unfolding outcome while_started while_dark while_red
 stopped_dark room dark = refl
 stopped_dark room (red k cause) = refl
 stopped_dark room (started s) = refl
@@ -116,7 +116,7 @@ same_later room (c ∷ later) h g e = ap (λ s. moved (outcome room s c) s) (sam
 
 -- what was forgotten, and the two beginnings
 pub stops_forget : StopsForget
-unfolding after outcome while-dark
+unfolding after outcome while_dark
 stops_forget room later history =
     let e : after room (stop ∷ history) ≡ after room [] = stopped_dark room (after room history) in
     let one : after room (start_at_one ∷ stop ∷ history) ≡ begun from_one = ap (λ s. moved (outcome room s start_at_one) s) e in
@@ -129,7 +129,7 @@ stops_forget room later history =
     )
 
 shown_at : (room : Room) (s : State) → outcome room s show_lamp ≡ accepted s (lamp_shown (lamp_of s))
-unfolding outcome while-started while-dark while-red
+unfolding outcome while_started while_dark while_red
 shown_at room dark = refl
 shown_at room (red k cause) = refl
 shown_at room (started s) = refl
@@ -138,17 +138,17 @@ pub lamp_is_shown : LampIsShown
 lamp_is_shown room history = shown_at room (after room history)
 
 pub highest_heard : HighestHeard
-highest_heard room history s e = (subst (Tidy (highest-in room (since room history))) e (tidy room history)).0
+highest_heard room history s e = (subst (Tidy (highest_in room (since room history))) e (tidy room history)).0
 
 heartbeat_taken : (t : Bool) (next : State) → t ≡ true → IsCounted (cond t (accepted next (counted no_counts)) (refused refusal.OtherSession))
 heartbeat_taken true next e = (next, no_counts, refl)
 heartbeat_taken false next e = let z : ◌≡◌ {A = ℕ} 0 1 = cc in absurd (omega arith)
 
-packet_taken : (room : Room) (s : Started) (r : Result Sent Refusal) → Readable s.session r → IsCounted (on-packet room s r)
+packet_taken : (room : Room) (s : Started) (r : Result Sent Refusal) → Readable s.session r → IsCounted (on_packet room s r)
 packet_taken room s (Err why) ok = absurd ok
 packet_taken room s (Ok (messages number ms)) ok = (_, _, refl)
 packet_taken room s (Ok (heartbeat next session)) ok = heartbeat_taken (agrees s.session session) _ ok
 
 pub packets_are_taken : PacketsAreTaken
-unfolding outcome while-started
+unfolding outcome while_started
 packets_are_taken room s bytes ok = packet_taken room s (packet_of bytes) ok

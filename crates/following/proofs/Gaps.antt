@@ -39,8 +39,8 @@ use Rattle.following.specs.Follower.{
   unread,
   count_one,
   going_on,
-  run-held,
-  run-wanted,
+  run_held,
+  run_wanted,
   treated,
   place_after,
   counts_of,
@@ -48,14 +48,14 @@ use Rattle.following.specs.Follower.{
   fetching,
   mended,
 }
-use Rattle.following.specs.Days.{after, since, highest-in}
+use Rattle.following.specs.Days.{after, since, highest_in}
 use Rattle.following.specs.Law.{Carries, Carried, NoNeedlessGap}
 use Rattle.following.specs.declared.answers.Counts.{Counts}
 use Rattle.following.specs.declared.answers.Ending.TheVariants as ending
 use Rattle.following.proofs.Held.{ranked, held_later, not_held, ordered_not_held}
 use Rattle.following.proofs.Shapes.{Shape}
 use Rattle.following.proofs.Histories.{Kept, always}
-use Rattle.following.proofs.Standing.{Tidy, tidy-kept}
+use Rattle.following.proofs.Standing.{Tidy, tidy_kept}
 
 -- the number j was run already, or is held
 abbrev pub In : ℕ → Place → Type 0
@@ -103,10 +103,10 @@ first_or_rest j h hs e =
     (cases_order j h.number)
 
 module _ (room : Room) (j : ℕ) where
-  in-run-held : (hs : List Held) (b : Plain) (w : ℕ) → (j < w) ⊎ (is_held j hs ≡ true) → In j (run-held room b w hs)
-  unfolding run-held
-  in-run-held [] b w i = i
-  in-run-held (h ∷ hs) b w i = go (eqb h.number w) refl (ran room.for_book b h.bytes) (λ b'. in-run-held hs b' (suc w))
+  in_run_held : (hs : List Held) (b : Plain) (w : ℕ) → (j < w) ⊎ (is_held j hs ≡ true) → In j (run_held room b w hs)
+  unfolding run_held
+  in_run_held [] b w i = i
+  in_run_held (h ∷ hs) b w i = go (eqb h.number w) refl (ran room.for_book b h.bytes) (λ b'. in_run_held hs b' (suc w))
     where
       next : h.number ≡ w → (j < w) ⊎ (is_held j (h ∷ hs) ≡ true) → (j < suc w) ⊎ (is_held j hs ≡ true)
       next e (inl l) = inl (omega arith)
@@ -114,18 +114,18 @@ module _ (room : Room) (j : ℕ) where
 
       go :
           (t : Bool) → eqb h.number w ≡ t → (r : Result Plain Cause) →
-          ((b' : Plain) → (j < suc w) ⊎ (is_held j hs ≡ true) → In j (run-held room b' (suc w) hs)) →
-          In j (cond t (going_on w r (λ b'. run-held room b' (suc w) hs)) (wanting (record { book = b; wanted = w }) (h ∷ hs)))
+          ((b' : Plain) → (j < suc w) ⊎ (is_held j hs ≡ true) → In j (run_held room b' (suc w) hs)) →
+          In j (cond t (going_on w r (λ b'. run_held room b' (suc w) hs)) (wanting (record { book = b; wanted = w }) (h ∷ hs)))
       go false q r ih = i
       go true q (Ok b') ih = ih b' (next (eqb-true h.number w q) i)
       go true q (Err c) ih = tt
 
-  in-run-wanted : (b : Wanting) (x : List ℕ) (hs : List Held) → (j < suc b.wanted) ⊎ (is_held j hs ≡ true) → In j (run-wanted room b x hs)
-  unfolding run-wanted
-  in-run-wanted b x hs i = go (ran room.for_book b.book x)
+  in_run_wanted : (b : Wanting) (x : List ℕ) (hs : List Held) → (j < suc b.wanted) ⊎ (is_held j hs ≡ true) → In j (run_wanted room b x hs)
+  unfolding run_wanted
+  in_run_wanted b x hs i = go (ran room.for_book b.book x)
     where
-      go : (r : Result Plain Cause) → In j (going_on b.wanted r (λ b'. run-held room b' (suc b.wanted) hs))
-      go (Ok b') = in-run-held hs b' (suc b.wanted) i
+      go : (r : Result Plain Cause) → In j (going_on b.wanted r (λ b'. run_held room b' (suc b.wanted) hs))
+      go (Ok b') = in_run_held hs b' (suc b.wanted) i
       go (Err c) = tt
 
   later : (b : Wanting) (hs : List Held) → In j (wanting b hs) → (j < suc b.wanted) ⊎ (is_held j hs ≡ true)
@@ -133,9 +133,9 @@ module _ (room : Room) (j : ℕ) where
   later b hs (inr e) = inr e
 
   -- a message of a packet takes nothing away
-  treated-keeps : (p : Place) (i : ℕ) (x : List ℕ) → In j p → In j (treated room p i x).1
+  treated_keeps : (p : Place) (i : ℕ) (x : List ℕ) → In j p → In j (treated room p i x).1
   unfolding treated
-  treated-keeps (bookless hs) i x h = go (is_held i hs) (ltb (length hs) room.for_held)
+  treated_keeps (bookless hs) i x h = go (is_held i hs) (ltb (length hs) room.for_held)
     where
       go :
           (t u : Bool) →
@@ -143,7 +143,7 @@ module _ (room : Room) (j : ℕ) where
       go true u = h
       go false true = held_still j i x hs h
       go false false = h
-  treated-keeps (wanting b hs) i x h =
+  treated_keeps (wanting b hs) i x h =
       go (ltb i b.wanted) (eqb i b.wanted) (is_held i hs) (ltb (length hs) room.for_held)
     where
       with : In j (wanting b hs) → In j (wanting b (with_held i x hs))
@@ -154,44 +154,44 @@ module _ (room : Room) (j : ℕ) where
           (t u v r : Bool) →
           In j
           (cond {A = Fate × Place} t (repeated, wanting b hs)
-          (cond u (taken, run-wanted room b x hs)
+          (cond u (taken, run_wanted room b x hs)
           (cond v (repeated, wanting b hs) (cond r (taken, wanting b (with_held i x hs)) (dropped, wanting b hs))))).1
       go true u v r = h
-      go false true v r = in-run-wanted b x hs (later b hs h)
+      go false true v r = in_run_wanted b x hs (later b hs h)
       go false false true r = h
       go false false false true = with h
       go false false false false = h
-  treated-keeps (stopped n c) i x h = tt
+  treated_keeps (stopped n c) i x h = tt
 
-  place-after-keeps : (ms : List (List ℕ)) (p : Place) (k : ℕ) → In j p → In j (place_after room p k ms)
+  place_after_keeps : (ms : List (List ℕ)) (p : Place) (k : ℕ) → In j p → In j (place_after room p k ms)
   unfolding place_after
-  place-after-keeps [] p k h = h
-  place-after-keeps (m ∷ ms) p k h = place-after-keeps ms (treated room p k m).1 (suc k) (treated-keeps p k m h)
+  place_after_keeps [] p k h = h
+  place_after_keeps (m ∷ ms) p k h = place_after_keeps ms (treated room p k m).1 (suc k) (treated_keeps p k m h)
 
-  mended-keeps : (source : ℕ → Option (List ℕ)) (k n : ℕ) (p : Place) → In j p → In j (mended room source k n p).place
+  mended_keeps : (source : ℕ → Option (List ℕ)) (k n : ℕ) (p : Place) → In j p → In j (mended room source k n p).place
   unfolding mended
-  mended-keeps source k zero (bookless hs) h = h
-  mended-keeps source k zero (wanting b hs) h = h
-  mended-keeps source k zero (stopped i c) h = tt
-  mended-keeps source k (suc n) (bookless hs) h = h
-  mended-keeps source k (suc n) (stopped i c) h = tt
-  mended-keeps source k (suc n) (wanting b hs) h =
-      go (leb b.wanted k) (source b.wanted) (λ x. mended-keeps source k n (run-wanted room b x hs))
+  mended_keeps source k zero (bookless hs) h = h
+  mended_keeps source k zero (wanting b hs) h = h
+  mended_keeps source k zero (stopped i c) h = tt
+  mended_keeps source k (suc n) (bookless hs) h = h
+  mended_keeps source k (suc n) (stopped i c) h = tt
+  mended_keeps source k (suc n) (wanting b hs) h =
+      go (leb b.wanted k) (source b.wanted) (λ x. mended_keeps source k n (run_wanted room b x hs))
     where
       go :
           (u : Bool) (o : Option (List ℕ)) →
-          ((x : List ℕ) → In j (run-wanted room b x hs) → In j (mended room source k n (run-wanted room b x hs)).place) →
+          ((x : List ℕ) → In j (run_wanted room b x hs) → In j (mended room source k n (run_wanted room b x hs)).place) →
           In j
-          (cond u (fetching o (wanting b hs) (λ x. mended room source k n (run-wanted room b x hs))) (ends (wanting b hs) ending.Green)).place
+          (cond u (fetching o (wanting b hs) (λ x. mended room source k n (run_wanted room b x hs))) (ends (wanting b hs) ending.Green)).place
       go false o ih = h
       go true None ih = h
-      go true (Some x) ih = ih x (in-run-wanted b x hs (later b hs h))
+      go true (Some x) ih = ih x (in_run_wanted b x hs (later b hs h))
 
 -- a message that is not dropped is there afterwards
 module _ (room : Room) where
-  treated-has : (p : Place) (i : ℕ) (x : List ℕ) → ((treated room p i x).0 ≡ dropped → ⊥) → In i (treated room p i x).1
+  treated_has : (p : Place) (i : ℕ) (x : List ℕ) → ((treated room p i x).0 ≡ dropped → ⊥) → In i (treated room p i x).1
   unfolding treated
-  treated-has (bookless hs) i x n = go (is_held i hs) refl (ltb (length hs) room.for_held) n
+  treated_has (bookless hs) i x n = go (is_held i hs) refl (ltb (length hs) room.for_held) n
     where
       go :
           (t : Bool) → is_held i hs ≡ t → (u : Bool) →
@@ -200,95 +200,95 @@ module _ (room : Room) where
       go true q u no_drop = q
       go false q true no_drop = held_now i x hs
       go false q false no_drop = absurd (no_drop refl)
-  treated-has (wanting b hs) i x n =
+  treated_has (wanting b hs) i x n =
       go (ltb i b.wanted) refl (eqb i b.wanted) refl (is_held i hs) refl (ltb (length hs) room.for_held) n
     where
       go :
           (t : Bool) → ltb i b.wanted ≡ t → (u : Bool) → eqb i b.wanted ≡ u → (v : Bool) → is_held i hs ≡ v → (r : Bool) →
           ((cond {A = Fate × Place} t (repeated, wanting b hs)
-          (cond u (taken, run-wanted room b x hs)
+          (cond u (taken, run_wanted room b x hs)
           (cond v (repeated, wanting b hs) (cond r (taken, wanting b (with_held i x hs)) (dropped, wanting b hs))))).0 ≡ dropped → ⊥) →
           In i
           (cond {A = Fate × Place} t (repeated, wanting b hs)
-          (cond u (taken, run-wanted room b x hs)
+          (cond u (taken, run_wanted room b x hs)
           (cond v (repeated, wanting b hs) (cond r (taken, wanting b (with_held i x hs)) (dropped, wanting b hs))))).1
       go true q u q' v q'' r no_drop = inl (ltb-true i b.wanted q)
-      go false q true q' v q'' r no_drop = in-run-wanted room i b x hs (let a : i ≡ b.wanted = eqb-true i b.wanted q' in inl (omega arith))
+      go false q true q' v q'' r no_drop = in_run_wanted room i b x hs (let a : i ≡ b.wanted = eqb-true i b.wanted q' in inl (omega arith))
       go false q false q' true q'' r no_drop = inr q''
       go false q false q' false q'' true no_drop = inr (held_now i x hs)
       go false q false q' false q'' false no_drop = absurd (no_drop refl)
-  treated-has (stopped k c) i x n = tt
+  treated_has (stopped k c) i x n = tt
 
-  one-dropped : (f : Fate) (c : Counts) → (count_one f c).dropped ≡ 0 → (f ≡ dropped → ⊥) × (c.dropped ≡ 0)
-  one-dropped taken c e = ((λ q. let z : ◌≡◌ {A = ℕ} 0 1 = cc in omega arith), e)
-  one-dropped repeated c e = ((λ q. let z : ◌≡◌ {A = ℕ} 0 1 = cc in omega arith), e)
-  one-dropped unread c e = ((λ q. let z : ◌≡◌ {A = ℕ} 0 1 = cc in omega arith), e)
-  one-dropped dropped c e = absurd (omega arith)
+  one_dropped : (f : Fate) (c : Counts) → (count_one f c).dropped ≡ 0 → (f ≡ dropped → ⊥) × (c.dropped ≡ 0)
+  one_dropped taken c e = ((λ q. let z : ◌≡◌ {A = ℕ} 0 1 = cc in omega arith), e)
+  one_dropped repeated c e = ((λ q. let z : ◌≡◌ {A = ℕ} 0 1 = cc in omega arith), e)
+  one_dropped unread c e = ((λ q. let z : ◌≡◌ {A = ℕ} 0 1 = cc in omega arith), e)
+  one_dropped dropped c e = absurd (omega arith)
 
-  place-after-has :
+  place_after_has :
       (ms : List (List ℕ)) (p : Place) (k j : ℕ) → (counts_of room p k ms).dropped ≡ 0 → k ≤ j → suc j ≤ k + length ms → In j (place_after room p k ms)
   unfolding place_after counts_of
-  place-after-has [] p k j e a b = absurd (omega arith)
-  place-after-has (m ∷ ms) p k j e a b =
-      let f = one-dropped (treated room p k m).0 (counts_of room (treated room p k m).1 (suc k) ms) e in
+  place_after_has [] p k j e a b = absurd (omega arith)
+  place_after_has (m ∷ ms) p k j e a b =
+      let f = one_dropped (treated room p k m).0 (counts_of room (treated room p k m).1 (suc k) ms) e in
       ⊎_elim
       (λ q.
       subst (λ i. In i (place_after room (treated room p k m).1 (suc k) ms)) q
-      (place-after-keeps room k ms (treated room p k m).1 (suc k) (treated-has p k m f.0)))
-      (λ l. place-after-has ms (treated room p k m).1 (suc k) j f.1 (omega arith) (omega arith))
-      (here-or-later k j a)
+      (place_after_keeps room k ms (treated room p k m).1 (suc k) (treated_has p k m f.0)))
+      (λ l. place_after_has ms (treated room p k m).1 (suc k) j f.1 (omega arith) (omega arith))
+      (here_or_later k j a)
     where
-      here-or-later : (k j : ℕ) → k ≤ j → (k ≡ j) ⊎ (k < j)
-      here-or-later k j a = ⊎_elim (λ l. inr l) (λ l. inl (omega arith)) (cases_lt k j)
+      here_or_later : (k j : ℕ) → k ≤ j → (k ≡ j) ⊎ (k < j)
+      here_or_later k j a = ⊎_elim (λ l. inr l) (λ l. inl (omega arith)) (cases_lt k j)
 
   abbrev Has : ℕ → State → Type 0
   Has j dark = Unit {0}
   Has j (red k c) = Unit {0}
   Has j (started s) = In j (place_of s.book s.held)
 
-  settled-has : (j : ℕ) (p : Place) (s : Option Session) (k : ℕ) → In j p → Has j (settled s k p)
+  settled_has : (j : ℕ) (p : Place) (s : Option Session) (k : ℕ) → In j p → Has j (settled s k p)
   unfolding settled
-  settled-has j (bookless hs) s k i = i
-  settled-has j (wanting b hs) s k i = i
-  settled-has j (stopped n c) s k i = tt
+  settled_has j (bookless hs) s k i = i
+  settled_has j (wanting b hs) s k i = i
+  settled_has j (stopped n c) s k i = tt
 
-  abbrev All-in : List Call → ℕ → State → Type 0
-  All-in cs n s = n ≡ 0 → (j : ℕ) → Carried cs j → Has j s
+  abbrev AllIn : List Call → ℕ → State → Type 0
+  AllIn cs n s = n ≡ 0 → (j : ℕ) → Carried cs j → Has j s
 
-  all-in-kept : Kept room All-in
+  all_in_kept : Kept room AllIn
   unfolding Carried
-  all-in-kept =
+  all_in_kept =
       record {
-        at-dark = λ cs n z j c. tt;
+        at_dark = λ cs n z j c. tt;
         at_one = λ z j c. absurd c;
         at_none = λ z j c. absurd c;
-        by-lamp = λ cs n s ih z j c. ih z j (⊎_elim absurd (λ i. i) c);
-        by-question = λ cs n s q ih z j c. ih z j (⊎_elim absurd (λ i. i) c);
-        by-heartbeat = λ cs n s bytes next session e ih z j c.
-            settled-has j (place_of s.book s.held) (Some session) (max s.highest _)
+        by_lamp = λ cs n s ih z j c. ih z j (⊎_elim absurd (λ i. i) c);
+        by_question = λ cs n s q ih z j c. ih z j (⊎_elim absurd (λ i. i) c);
+        by_heartbeat = λ cs n s bytes next session e ih z j c.
+            settled_has j (place_of s.book s.held) (Some session) (max s.highest _)
             (⊎_elim (λ i. absurd (subst (λ r. Carries r j) e i)) (ih (omega arith) j) c);
-        by-data = λ cs n s bytes number ms e ih z j c.
+        by_data = λ cs n s bytes number ms e ih z j c.
             let p = place_of s.book s.held in
-            settled-has j (place_after room p number ms) s.session _
+            settled_has j (place_after room p number ms) s.session _
             (⊎_elim
-            (λ i. let r = subst (λ x. Carries x j) e i in place-after-has ms p number j (omega arith) r.0 r.1)
-            (λ i. place-after-keeps room j ms p number (ih (omega arith) j i))
+            (λ i. let r = subst (λ x. Carries x j) e i in place_after_has ms p number j (omega arith) r.0 r.1)
+            (λ i. place_after_keeps room j ms p number (ih (omega arith) j i))
             c);
-        by-snapshot = λ cs n s bytes snap b e ih z j c.
+        by_snapshot = λ cs n s bytes snap b e ih z j c.
             let h : is_held j s.held ≡ true = subst (λ o. In j (place_of o s.held)) b (ih z j (⊎_elim absurd (λ i. i) c)) in
-            settled-has j (run-held room snap.book snap.next (held_from snap.next s.held)) (Some snap.session) _
-            (in-run-held room j (held_from snap.next s.held) snap.book snap.next (held_beyond j snap.next s.held h));
-        by-repair = λ cs n s source budget ih z j c.
-            settled-has j (mended room source.held s.highest budget (place_of s.book s.held)).place (Some source.session) _
-            (mended-keeps room j source.held s.highest budget (place_of s.book s.held) (ih z j (⊎_elim absurd (λ i. i) c)));
+            settled_has j (run_held room snap.book snap.next (held_from snap.next s.held)) (Some snap.session) _
+            (in_run_held room j (held_from snap.next s.held) snap.book snap.next (held_beyond j snap.next s.held h));
+        by_repair = λ cs n s source budget ih z j c.
+            settled_has j (mended room source.held s.highest budget (place_of s.book s.held)).place (Some source.session) _
+            (mended_keeps room j source.held s.highest budget (place_of s.book s.held) (ih z j (⊎_elim absurd (λ i. i) c)));
       }
 
-  gap-not-in :
+  gap_not_in :
       (b : Option Wanting) (heard : Bool) (h : ℕ) (hs : List Held) (w k : ℕ) →
       Shape h (place_of b hs) → lamp_at b heard h ≡ lamp.Gap w k → In w (place_of b hs) → ⊥
-  gap-not-in None heard h hs w k o e i = let z : ◌≡◌ {A = ℕ} 0 1 = cc in omega arith
-  gap-not-in (Some b) false h hs w k o e i = let z : ◌≡◌ {A = ℕ} 0 1 = cc in omega arith
-  gap-not-in (Some b) true h hs w k o e i = go (leb b.wanted h) e
+  gap_not_in None heard h hs w k o e i = let z : ◌≡◌ {A = ℕ} 0 1 = cc in omega arith
+  gap_not_in (Some b) false h hs w k o e i = let z : ◌≡◌ {A = ℕ} 0 1 = cc in omega arith
+  gap_not_in (Some b) true h hs w k o e i = go (leb b.wanted h) e
     where
       go : (t : Bool) → cond t (lamp.Gap b.wanted h) (lamp.Green b.wanted) ≡ lamp.Gap w k → ⊥
       go false e' = let z : ◌≡◌ {A = ℕ} 0 1 = cc in omega arith
@@ -300,10 +300,10 @@ module _ (room : Room) where
   unfolding lamp_of
   gap_at top dark w k t e i = let z : ◌≡◌ {A = ℕ} 0 1 = cc in omega arith
   gap_at top (red n c) w k t e i = let z : ◌≡◌ {A = ℕ} 0 1 = cc in omega arith
-  gap_at top (started s) w k t e i = gap-not-in s.book s.heard s.highest s.held w k t.1 e i
+  gap_at top (started s) w k t e i = gap_not_in s.book s.heard s.highest s.held w k t.1 e i
 
 pub no_needless_gap : NoNeedlessGap
 no_needless_gap room history w k z e c =
-    gap_at room (highest-in room (since room history)) (after room history) w k
-    (always room (λ cs n s. Tidy (highest-in room cs) s) (tidy-kept room) history) e
-    (always room (All-in room) (all-in-kept room) history z w c)
+    gap_at room (highest_in room (since room history)) (after room history) w k
+    (always room (λ cs n s. Tidy (highest_in room cs) s) (tidy_kept room) history) e
+    (always room (AllIn room) (all_in_kept room) history z w c)

@@ -16,15 +16,15 @@ use Rattle.following.specs.Follower.{
   agrees,
   settled,
   mended,
-  on-mended,
-  unless-waiting,
-  on-question,
-  while-started,
-  while-dark,
-  while-red,
+  on_mended,
+  unless_waiting,
+  on_question,
+  while_started,
+  while_dark,
+  while_red,
   outcome,
 }
-use Rattle.following.specs.Days.{Day, reached, stops, whole_run, after, since, highest-in}
+use Rattle.following.specs.Days.{Day, reached, stops, whole_run, after, since, highest_in}
 use Rattle.following.specs.Law.{held_of, missing, Covers, Refuses, Mends, Law}
 use Rattle.following.specs.declared.answers.Ending.TheVariants as ending
 use Rattle.following.proofs.Shapes.{Shape}
@@ -34,11 +34,11 @@ use Rattle.following.proofs.Repairs.{Repaired, repairs}
 
 module _ (room : Room) (day : Day) where
   -- a run that was stopped stays so
-  stays-stopped :
+  stays_stopped :
       (n k i : ℕ) (c : Cause) → k ≤ n → whole_run room.for_book day k ≡ stops i c → whole_run room.for_book day n ≡ stops i c
   unfolding whole_run
-  stays-stopped zero k i c l e = let z : k ≡ 0 = omega arith in rw z at e
-  stays-stopped (suc n) k i c l e = go (leb k n) refl (λ l'. stays-stopped n k i c l' e)
+  stays_stopped zero k i c l e = let z : k ≡ 0 = omega arith in rw z at e
+  stays_stopped (suc n) k i c l e = go (leb k n) refl (λ l'. stays_stopped n k i c l' e)
     where
       go : (t : Bool) → leb k n ≡ t → (k ≤ n → whole_run room.for_book day n ≡ stops i c) → whole_run room.for_book day (suc n) ≡ stops i c
       go true q ih = rw (ih (leb-true k n q)) refl
@@ -48,19 +48,19 @@ module _ (room : Room) (day : Day) where
           subst (λ (j : ℕ). whole_run room.for_book day j ≡ stops i c) z e
 
   -- green, over the parts of a state
-  green-at :
+  green_at :
       (b : Option Wanting) (heard : Bool) (k : ℕ) (hs : List Held) (s : State) (n : ℕ) →
       Shape k (place_of b hs) → Fits room day (place_of b hs) → lamp_at b heard k ≡ lamp.Green n →
       (n ≡ suc k) × ((v : Plain) × (whole_run room.for_book day k ≡ reached v) ×
-      ((q : Question) → on-question room (lamp_at b heard k) b s q ≡ told s (answered v q)))
-  green-at None heard k hs s n o f e = absurd (let z : ◌≡◌ {A = ℕ} 0 1 = cc in omega arith)
-  green-at (Some b) false k hs s n o f e = absurd (let z : ◌≡◌ {A = ℕ} 0 1 = cc in omega arith)
-  green-at (Some b) true k hs s n o f e = go (leb b.wanted k) refl e
+      ((q : Question) → on_question room (lamp_at b heard k) b s q ≡ told s (answered v q)))
+  green_at None heard k hs s n o f e = absurd (let z : ◌≡◌ {A = ℕ} 0 1 = cc in omega arith)
+  green_at (Some b) false k hs s n o f e = absurd (let z : ◌≡◌ {A = ℕ} 0 1 = cc in omega arith)
+  green_at (Some b) true k hs s n o f e = go (leb b.wanted k) refl e
     where
       go :
           (t : Bool) → leb b.wanted k ≡ t → cond t (lamp.Gap b.wanted k) (lamp.Green b.wanted) ≡ lamp.Green n →
           (n ≡ suc k) × ((v : Plain) × (whole_run room.for_book day k ≡ reached v) ×
-          ((q : Question) → on-question room (cond t (lamp.Gap b.wanted k) (lamp.Green b.wanted)) (Some b) s q ≡ told s (answered v q)))
+          ((q : Question) → on_question room (cond t (lamp.Gap b.wanted k) (lamp.Green b.wanted)) (Some b) s q ≡ told s (answered v q)))
       go true q e' = absurd (let z : ◌≡◌ {A = ℕ} 0 1 = cc in omega arith)
       go false q e' =
           let a : k < b.wanted = leb-false b.wanted k q in
@@ -68,19 +68,19 @@ module _ (room : Room) (day : Day) where
           let z : pred b.wanted ≡ k = omega arith in
           (omega arith, (b.book, rw z at f.1, λ x. refl))
 
-  not-green-at :
+  not_green_at :
       (b : Option Wanting) (l : Lamp) (s : State) → ((n : ℕ) → l ≡ lamp.Green n → ⊥) → (q : Question) →
-      on-question room l b s q ≡ refused (refusal.NotGreen l)
-  not-green-at b lamp.Dark s g q = refl
-  not-green-at b (lamp.Red n c) s g q = refl
-  not-green-at b lamp.Waiting s g q = refl
-  not-green-at b (lamp.Gap w k) s g q = refl
-  not-green-at b (lamp.Green n) s g q = absurd (g n refl)
+      on_question room l b s q ≡ refused (refusal.NotGreen l)
+  not_green_at b lamp.Dark s g q = refl
+  not_green_at b (lamp.Red n c) s g q = refl
+  not_green_at b lamp.Waiting s g q = refl
+  not_green_at b (lamp.Gap w k) s g q = refl
+  not_green_at b (lamp.Green n) s g q = absurd (g n refl)
 
-  agrees-known : (t : Option Session) (s : Session) → Known room day t → s ≡ day.session → agrees t s ≡ true
+  agrees_known : (t : Option Session) (s : Session) → Known room day t → s ≡ day.session → agrees t s ≡ true
   unfolding agrees
-  agrees-known None s e e' = refl
-  agrees-known (Some t) s e e' = (same_session_decides t s).1 (e ∙ sym e')
+  agrees_known None s e e' = refl
+  agrees_known (Some t) s e e' = (same_session_decides t s).1 (e ∙ sym e')
 
   -- gap, over the parts of a state
   gap_at :
@@ -89,9 +89,9 @@ module _ (room : Room) (day : Day) where
       (source : Meaning) (budget : ℕ) → source.session ≡ day.session →
       Covers source w i hs → missing hs w (suc i - w) ≤ budget →
       (cond (agrees t source.session)
-      (unless-waiting room (lamp_at b heard k) (on-mended room source.session k (mended room source.held k budget (place_of b hs))))
+      (unless_waiting room (lamp_at b heard k) (on_mended room source.session k (mended room source.held k budget (place_of b hs))))
       (refused refusal.OtherSession)
-      ≡ on-mended room source.session k (mended room source.held k budget (place_of b hs)))
+      ≡ on_mended room source.session k (mended room source.held k budget (place_of b hs)))
       × ((i ≡ k) × Repaired room source k (Some source.session) (mended room source.held k budget (place_of b hs)) (missing hs w (suc i - w)))
   gap_at t None heard k hs w i a o e source budget ours cov enough = absurd (let z : ◌≡◌ {A = ℕ} 0 1 = cc in omega arith)
   gap_at t (Some b) false k hs w i a o e source budget ours cov enough = absurd (let z : ◌≡◌ {A = ℕ} 0 1 = cc in omega arith)
@@ -100,16 +100,16 @@ module _ (room : Room) (day : Day) where
       go :
           (u : Bool) → leb b.wanted k ≡ u → cond u (lamp.Gap b.wanted k) (lamp.Green b.wanted) ≡ lamp.Gap w i →
           (cond (agrees t source.session)
-          (unless-waiting room (cond u (lamp.Gap b.wanted k) (lamp.Green b.wanted))
-          (on-mended room source.session k (mended room source.held k budget (wanting b hs))))
+          (unless_waiting room (cond u (lamp.Gap b.wanted k) (lamp.Green b.wanted))
+          (on_mended room source.session k (mended room source.held k budget (wanting b hs))))
           (refused refusal.OtherSession)
-          ≡ on-mended room source.session k (mended room source.held k budget (wanting b hs)))
+          ≡ on_mended room source.session k (mended room source.held k budget (wanting b hs)))
           × ((i ≡ k) × Repaired room source k (Some source.session) (mended room source.held k budget (wanting b hs)) (missing hs w (suc i - w)))
       go false q e' = absurd (let z : ◌≡◌ {A = ℕ} 0 1 = cc in omega arith)
       go true q e' =
           let ew : w ≡ b.wanted = cc in
           let ei : i ≡ k = cc in (
-            rw (agrees-known t source.session a ours) refl,
+            rw (agrees_known t source.session a ours) refl,
             (
               ei,
               rw (ew, ei)
@@ -118,22 +118,22 @@ module _ (room : Room) (day : Day) where
           )
 
   module _ (top : ℕ) where
-    green-right :
+    green_right :
         (s : State) → Tidy top s → Faithful room day s → (n : ℕ) → lamp_of s ≡ lamp.Green n →
         (n ≡ suc top) × ((v : Plain) × (whole_run room.for_book day top ≡ reached v) ×
         ((q : Question) → outcome room s (ask q) ≡ told s (answered v q)))
-    unfolding lamp_of outcome while-started
-    green-right dark t f n e = absurd (let z : ◌≡◌ {A = ℕ} 0 1 = cc in omega arith)
-    green-right (red k c) t f n e = absurd (let z : ◌≡◌ {A = ℕ} 0 1 = cc in omega arith)
-    green-right (started s) t f n e =
-        let r = green-at s.book s.heard s.highest s.held (started s) n t.1 f.1 e in
+    unfolding lamp_of outcome while_started
+    green_right dark t f n e = absurd (let z : ◌≡◌ {A = ℕ} 0 1 = cc in omega arith)
+    green_right (red k c) t f n e = absurd (let z : ◌≡◌ {A = ℕ} 0 1 = cc in omega arith)
+    green_right (started s) t f n e =
+        let r = green_at s.book s.heard s.highest s.held (started s) n t.1 f.1 e in
         (r.0 ∙ ap suc t.0, (r.1.0, ap (whole_run room.for_book day) (sym t.0) ∙ r.1.1, r.1.2))
 
-    no-book : (s : State) → ((n : ℕ) → lamp_of s ≡ lamp.Green n → ⊥) → (q : Question) → Refuses room s q
-    unfolding lamp_of outcome while-started while-dark while-red
-    no-book dark g q = inl refl
-    no-book (red k c) g q = inr (inl refl)
-    no-book (started s) g q = inr (inr (not-green-at s.book (lamp_at s.book s.heard s.highest) (started s) g q))
+    no_book : (s : State) → ((n : ℕ) → lamp_of s ≡ lamp.Green n → ⊥) → (q : Question) → Refuses room s q
+    unfolding lamp_of outcome while_started while_dark while_red
+    no_book dark g q = inl refl
+    no_book (red k c) g q = inr (inl refl)
+    no_book (started s) g q = inr (inr (not_green_at s.book (lamp_at s.book s.heard s.highest) (started s) g q))
 
     waits : (b : Option Wanting) (heard : Bool) (k i : ℕ) (c : Cause) → lamp_at b heard k ≡ lamp.Red i c → ⊥
     waits None heard k i c e = let z : ◌≡◌ {A = ℕ} 0 1 = cc in omega arith
@@ -144,26 +144,26 @@ module _ (room : Room) (day : Day) where
         go true e' = let z : ◌≡◌ {A = ℕ} 0 1 = cc in omega arith
         go false e' = let z : ◌≡◌ {A = ℕ} 0 1 = cc in omega arith
 
-    red-right :
+    red_right :
         (s : State) → Faithful room day s → (k : ℕ) (c : Cause) → lamp_of s ≡ lamp.Red k c →
         whole_run room.for_book day (length day.messages) ≡ stops k c
     unfolding lamp_of
-    red-right dark f k c e = absurd (let z : ◌≡◌ {A = ℕ} 0 1 = cc in omega arith)
-    red-right (started s) f k c e = absurd (waits s.book s.heard s.highest k c e)
-    red-right (red i cause) f k c e =
+    red_right dark f k c e = absurd (let z : ◌≡◌ {A = ℕ} 0 1 = cc in omega arith)
+    red_right (started s) f k c e = absurd (waits s.book s.heard s.highest k c e)
+    red_right (red i cause) f k c e =
         let n : i ≡ k = cc in
         let why : cause ≡ c = cc in
-        stays-stopped (length day.messages) i i cause f.1 f.0 ∙ ap (λ j. stops j cause) n ∙ ap (stops k) why
+        stays_stopped (length day.messages) i i cause f.1 f.0 ∙ ap (λ j. stops j cause) n ∙ ap (stops k) why
 
-    gap-mends :
+    gap_mends :
         (s : State) → Tidy top s → Faithful room day s → (w k : ℕ) → lamp_of s ≡ lamp.Gap w k →
         (source : Meaning) (budget : ℕ) → source.session ≡ day.session →
         Covers source w k (held_of s) → missing (held_of s) w (suc k - w) ≤ budget →
         Mends room s source budget k (missing (held_of s) w (suc k - w))
-    unfolding lamp_of outcome while-started
-    gap-mends dark t f w k e source budget ours cov enough = absurd (let z : ◌≡◌ {A = ℕ} 0 1 = cc in omega arith)
-    gap-mends (red i c) t f w k e source budget ours cov enough = absurd (let z : ◌≡◌ {A = ℕ} 0 1 = cc in omega arith)
-    gap-mends (started s) t f w k e source budget ours cov enough =
+    unfolding lamp_of outcome while_started
+    gap_mends dark t f w k e source budget ours cov enough = absurd (let z : ◌≡◌ {A = ℕ} 0 1 = cc in omega arith)
+    gap_mends (red i c) t f w k e source budget ours cov enough = absurd (let z : ◌≡◌ {A = ℕ} 0 1 = cc in omega arith)
+    gap_mends (started s) t f w k e source budget ours cov enough =
         let r = gap_at s.session s.book s.heard s.highest s.held w k f.0 t.1 e source budget ours cov enough in
         let m = mended room source.held s.highest budget (place_of s.book s.held) in
         record {
@@ -180,14 +180,14 @@ module _ (room : Room) (day : Day) where
 
 pub law : Law
 law room history day ok =
-    let top = highest-in room (since room history) in
+    let top = highest_in room (since room history) in
     let t = tidy room history in
     let f = faithful room day history ok in
     record {
-      green-right = λ n e.
-          let r = green-right room day top (after room history) t f n e in
+      green_right = λ n e.
+          let r = green_right room day top (after room history) t f n e in
           record { last = r.0; book = r.1.0; run = r.1.1; asks = r.1.2 };
-      no-book = no-book room day top (after room history);
-      red-right = red-right room day top (after room history) f;
-      gap-mends = gap-mends room day top (after room history) t f;
+      no_book = no_book room day top (after room history);
+      red_right = red_right room day top (after room history) f;
+      gap_mends = gap_mends room day top (after room history) t f;
     }

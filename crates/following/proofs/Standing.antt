@@ -13,9 +13,9 @@ use Rattle.following.specs.Follower.{
   settled,
   Snapshot,
   last_of,
-  run-held,
+  run_held,
   place_after,
-  snapshot-of,
+  snapshot_of,
   mended,
 }
 use Rattle.following.specs.Days.{
@@ -23,17 +23,17 @@ use Rattle.following.specs.Days.{
   whole_run,
   after,
   since,
-  highest-in,
-  packet-top,
-  snapshot-top,
-  Packet-belongs,
-  Snapshot-belongs,
-  All-belong,
+  highest_in,
+  packet_top,
+  snapshot_top,
+  PacketBelongs,
+  SnapshotBelongs,
+  AllBelong,
 }
 use Rattle.following.proofs.Held.{Ordered, Mine, ordered_down, ordered_up, from_ordered, from_mine}
-use Rattle.following.proofs.Shapes.{Shape, shape_up, run-held-shape, place-after-shape, mended-shape}
-use Rattle.following.proofs.Fits.{Fits, run-held-fits, place-after-fits, mended-fits}
-use Rattle.following.proofs.Readings.{number-from-one, snapshot-next, snapshot-alone-too}
+use Rattle.following.proofs.Shapes.{Shape, shape_up, run_held_shape, place_after_shape, mended_shape}
+use Rattle.following.proofs.Fits.{Fits, run_held_fits, place_after_fits, mended_fits}
+use Rattle.following.proofs.Readings.{number_from_one, snapshot_next, snapshot_alone_too}
 use Rattle.following.proofs.Histories.{Kept, always}
 
 -- the state is in order, where k is the highest number heard
@@ -61,13 +61,13 @@ held_ordered (Some b) hs k s = ordered_down hs b.wanted 0 k (omega arith) s.1
 -- after a snapshot whose End tells n
 pub snapshot_shape :
     (room : Room) (s : Started) (snap : Snapshot) → Shape s.highest (place_of s.book s.held) →
-    Shape (max s.highest (pred snap.next)) (run-held room snap.book snap.next (held_from snap.next s.held))
+    Shape (max s.highest (pred snap.next)) (run_held room snap.book snap.next (held_from snap.next s.held))
 snapshot_shape room s snap o =
     let n : ℕ = snap.next in
     let hs = s.held in
     let k : ℕ = max s.highest (pred n) in
     let up : Ordered 0 k hs = ordered_up hs 0 s.highest k (omega arith) (held_ordered s.book hs s.highest o) in
-    run-held-shape room (held_from n hs) snap.book n k (omega arith)
+    run_held_shape room (held_from n hs) snap.book n k (omega arith)
     (ordered_down (held_from n hs) (max 0 (pred n)) (pred n) k (omega arith) (from_ordered hs n 0 k up))
 
 pred_covers : (n : ℕ) → n ≤ suc (pred n)
@@ -78,46 +78,46 @@ pub last_covers : (number : ℕ) (ms : List (List ℕ)) → number + length ms �
 last_covers number ms = pred_covers (number + length ms)
 
 module _ (room : Room) where
-  pub tidy-kept : Kept room (λ cs n s. Tidy (highest-in room cs) s)
-  unfolding highest-in
-  tidy-kept =
+  pub tidy_kept : Kept room (λ cs n s. Tidy (highest_in room cs) s)
+  unfolding highest_in
+  tidy_kept =
       record {
-        at-dark = λ cs n. tt;
+        at_dark = λ cs n. tt;
         at_one = (refl, (omega arith, tt));
         at_none = (refl, tt);
-        by-lamp = λ cs n s t. tidy_same s (highest-in room cs) (max (highest-in room cs) 0) (omega arith) t;
-        by-question = λ cs n s q t. tidy_same s (highest-in room cs) (max (highest-in room cs) 0) (omega arith) t;
-        by-heartbeat = λ cs n s bytes next session e t.
+        by_lamp = λ cs n s t. tidy_same s (highest_in room cs) (max (highest_in room cs) 0) (omega arith) t;
+        by_question = λ cs n s q t. tidy_same s (highest_in room cs) (max (highest_in room cs) 0) (omega arith) t;
+        by_heartbeat = λ cs n s bytes next session e t.
             let k : ℕ = max s.highest (pred next) in
-            let p : packet-top room (packet_of bytes) ≡ pred next = ap (packet-top room) e in
-            let a : s.highest ≡ highest-in room cs = t.0 in
-            settled_tidy (place_of s.book s.held) (Some session) k (max (highest-in room cs) (packet-top room (packet_of bytes)))
+            let p : packet_top room (packet_of bytes) ≡ pred next = ap (packet_top room) e in
+            let a : s.highest ≡ highest_in room cs = t.0 in
+            settled_tidy (place_of s.book s.held) (Some session) k (max (highest_in room cs) (packet_top room (packet_of bytes)))
             (omega arith) (shape_up (place_of s.book s.held) s.highest k (omega arith) t.1);
-        by-data = λ cs n s bytes number ms e t.
+        by_data = λ cs n s bytes number ms e t.
             let k : ℕ = max s.highest (last_of number ms) in
-            let p : packet-top room (packet_of bytes) ≡ last_of number ms = ap (packet-top room) e in
-            let a : s.highest ≡ highest-in room cs = t.0 in
+            let p : packet_top room (packet_of bytes) ≡ last_of number ms = ap (packet_top room) e in
+            let a : s.highest ≡ highest_in room cs = t.0 in
             let c : number + length ms ≤ suc (last_of number ms) = last_covers number ms in
             settled_tidy (place_after room (place_of s.book s.held) number ms) s.session k
-            (max (highest-in room cs) (packet-top room (packet_of bytes))) (omega arith)
-            (place-after-shape room ms (place_of s.book s.held) k number (number-from-one number ms bytes e) (omega arith)
+            (max (highest_in room cs) (packet_top room (packet_of bytes))) (omega arith)
+            (place_after_shape room ms (place_of s.book s.held) k number (number_from_one number ms bytes e) (omega arith)
             (shape_up (place_of s.book s.held) s.highest k (omega arith) t.1));
-        by-snapshot = λ cs n s bytes snap b e t.
+        by_snapshot = λ cs n s bytes snap b e t.
             let k : ℕ = max s.highest (pred snap.next) in
-            let p : snapshot-top room (snapshot-of room None bytes) ≡ pred snap.next =
-            ap (snapshot-top room) (snapshot-alone-too room snap s.session bytes e) in
-            let a : s.highest ≡ highest-in room cs = t.0 in
-            settled_tidy (run-held room snap.book snap.next (held_from snap.next s.held)) (Some snap.session) k
-            (max (highest-in room cs) (snapshot-top room (snapshot-of room None bytes))) (omega arith) (snapshot_shape room s snap t.1);
-        by-repair = λ cs n s source budget t.
-            let a : s.highest ≡ highest-in room cs = t.0 in
+            let p : snapshot_top room (snapshot_of room None bytes) ≡ pred snap.next =
+            ap (snapshot_top room) (snapshot_alone_too room snap s.session bytes e) in
+            let a : s.highest ≡ highest_in room cs = t.0 in
+            settled_tidy (run_held room snap.book snap.next (held_from snap.next s.held)) (Some snap.session) k
+            (max (highest_in room cs) (snapshot_top room (snapshot_of room None bytes))) (omega arith) (snapshot_shape room s snap t.1);
+        by_repair = λ cs n s source budget t.
+            let a : s.highest ≡ highest_in room cs = t.0 in
             settled_tidy (mended room source.held s.highest budget (place_of s.book s.held)).place (Some source.session)
-            s.highest (max (highest-in room cs) 0) (omega arith)
-            (mended-shape room source.held s.highest budget (place_of s.book s.held) t.1);
+            s.highest (max (highest_in room cs) 0) (omega arith)
+            (mended_shape room source.held s.highest budget (place_of s.book s.held) t.1);
       }
 
-  pub tidy : (history : List Call) → Tidy (highest-in room (since room history)) (after room history)
-  tidy history = always room (λ cs n s. Tidy (highest-in room cs) s) tidy-kept history
+  pub tidy : (history : List Call) → Tidy (highest_in room (since room history)) (after room history)
+  tidy history = always room (λ cs n s. Tidy (highest_in room cs) s) tidy_kept history
 
   module _ (day : Day) where
     -- a known session is the day's
@@ -131,45 +131,45 @@ module _ (room : Room) where
     Faithful (red n c) = Fits room day (stopped n c)
     Faithful (started s) = Known s.session × Fits room day (place_of s.book s.held)
 
-    settled-faithful : (p : Place) (s : Option Session) (k : ℕ) → Known s → Fits room day p → Faithful (settled s k p)
+    settled_faithful : (p : Place) (s : Option Session) (k : ℕ) → Known s → Fits room day p → Faithful (settled s k p)
     unfolding settled
-    settled-faithful (bookless hs) s k a f = (a, f)
-    settled-faithful (wanting b hs) s k a f = (a, f)
-    settled-faithful (stopped n c) s k a f = f
+    settled_faithful (bookless hs) s k a f = (a, f)
+    settled_faithful (wanting b hs) s k a f = (a, f)
+    settled_faithful (stopped n c) s k a f = f
 
-    held-mine : (b : Option Wanting) (hs : List Held) → Fits room day (place_of b hs) → Mine day hs
-    held-mine None hs f = f
-    held-mine (Some b) hs f = f.2
+    held_mine : (b : Option Wanting) (hs : List Held) → Fits room day (place_of b hs) → Mine day hs
+    held_mine None hs f = f
+    held_mine (Some b) hs f = f.2
 
-    faithful-kept : Kept room (λ cs n s. All-belong room day cs → Faithful s)
-    unfolding All-belong whole_run
-    faithful-kept =
+    faithful_kept : Kept room (λ cs n s. AllBelong room day cs → Faithful s)
+    unfolding AllBelong whole_run
+    faithful_kept =
         record {
-          at-dark = λ cs n ok. tt;
+          at_dark = λ cs n ok. tt;
           at_one = λ ok. (tt, (omega arith, refl, tt));
           at_none = λ ok. (tt, tt);
-          by-lamp = λ cs n s ih ok. ih ok.1;
-          by-question = λ cs n s q ih ok. ih ok.1;
-          by-heartbeat = λ cs n s bytes next session e ih ok.
-              let ours : session ≡ day.session = subst (Packet-belongs room day) e ok.0 in
-              settled-faithful (place_of s.book s.held) (Some session) (max s.highest (pred next)) ours (ih ok.1).1;
-          by-data = λ cs n s bytes number ms e ih ok.
+          by_lamp = λ cs n s ih ok. ih ok.1;
+          by_question = λ cs n s q ih ok. ih ok.1;
+          by_heartbeat = λ cs n s bytes next session e ih ok.
+              let ours : session ≡ day.session = subst (PacketBelongs room day) e ok.0 in
+              settled_faithful (place_of s.book s.held) (Some session) (max s.highest (pred next)) ours (ih ok.1).1;
+          by_data = λ cs n s bytes number ms e ih ok.
               let i = ih ok.1 in
-              settled-faithful (place_after room (place_of s.book s.held) number ms) s.session
+              settled_faithful (place_after room (place_of s.book s.held) number ms) s.session
               (max s.highest (last_of number ms)) i.0
-              (place-after-fits room day ms (place_of s.book s.held) number (subst (Packet-belongs room day) e ok.0) i.1);
-          by-snapshot = λ cs n s bytes snap b e ih ok.
-              let ours = subst (Snapshot-belongs room day) (snapshot-alone-too room snap s.session bytes e) ok.0 in
-              settled-faithful (run-held room snap.book snap.next (held_from snap.next s.held)) (Some snap.session)
+              (place_after_fits room day ms (place_of s.book s.held) number (subst (PacketBelongs room day) e ok.0) i.1);
+          by_snapshot = λ cs n s bytes snap b e ih ok.
+              let ours = subst (SnapshotBelongs room day) (snapshot_alone_too room snap s.session bytes e) ok.0 in
+              settled_faithful (run_held room snap.book snap.next (held_from snap.next s.held)) (Some snap.session)
               (max s.highest (pred snap.next)) ours.0
-              (run-held-fits room day (held_from snap.next s.held) snap.book snap.next
-              (snapshot-next room snap s.session bytes e).0 ours.1
-              (from_mine s.held day snap.next (held-mine s.book s.held (ih ok.1).1)));
-          by-repair = λ cs n s source budget ih ok.
-              settled-faithful (mended room source.held s.highest budget (place_of s.book s.held)).place (Some source.session)
+              (run_held_fits room day (held_from snap.next s.held) snap.book snap.next
+              (snapshot_next room snap s.session bytes e).0 ours.1
+              (from_mine s.held day snap.next (held_mine s.book s.held (ih ok.1).1)));
+          by_repair = λ cs n s source budget ih ok.
+              settled_faithful (mended room source.held s.highest budget (place_of s.book s.held)).place (Some source.session)
               s.highest ok.0.0
-              (mended-fits room day source.held s.highest budget (place_of s.book s.held) ok.0.1 (ih ok.1).1);
+              (mended_fits room day source.held s.highest budget (place_of s.book s.held) ok.0.1 (ih ok.1).1);
         }
 
-    pub faithful : (history : List Call) → All-belong room day (since room history) → Faithful (after room history)
-    faithful history = always room (λ cs n s. All-belong room day cs → Faithful s) faithful-kept history
+    pub faithful : (history : List Call) → AllBelong room day (since room history) → Faithful (after room history)
+    faithful history = always room (λ cs n s. AllBelong room day cs → Faithful s) faithful_kept history

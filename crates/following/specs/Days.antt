@@ -21,7 +21,7 @@ use Rattle.following.specs.Calls.{
   refused,
   accepted,
 }
-use Rattle.following.specs.Follower.{Snapshot, snapshot-of, last_of, outcome, moved}
+use Rattle.following.specs.Follower.{Snapshot, snapshot_of, last_of, outcome, moved}
 
 -- a session's name, and the messages that the venue sent in it
 pub record Day : Type 0 where
@@ -81,72 +81,72 @@ module _ (room : Room) where
   noted (ask q) cs = ask q ∷ cs
 
   -- a refused call leaves the list as it is
-  abbrev pub noted-if : Outcome → Call → List Call → List Call
-  noted-if (refused why) c cs = cs
-  noted-if (accepted state reply) c cs = noted c cs
+  abbrev pub noted_if : Outcome → Call → List Call → List Call
+  noted_if (refused why) c cs = cs
+  noted_if (accepted state reply) c cs = noted c cs
 
   -- the calls accepted since the last accepted start, the latest first; a stop is one of them
   unfoldable pub since : List Call → List Call
   since [] = []
-  since (c ∷ history) = noted-if (outcome room (after history) c) c (since history)
+  since (c ∷ history) = noted_if (outcome room (after history) c) c (since history)
 
   -- a snapshot by itself, whatever session a follower knows
-  abbrev pub snapshot-alone : List ℕ → Result Snapshot Refusal
-  snapshot-alone bytes = snapshot-of room None bytes
+  abbrev pub snapshot_alone : List ℕ → Result Snapshot Refusal
+  snapshot_alone bytes = snapshot_of room None bytes
 
   -- the highest number that counts as heard by a packet or a snapshot: a heartbeat's own less 1, the last of data, and one
   -- less than a snapshot's End tells
-  abbrev pub packet-top : Result Sent Refusal → ℕ
-  packet-top (Ok (heartbeat next session)) = pred next
-  packet-top (Ok (messages number ms)) = last_of number ms
-  packet-top (Err why) = 0
+  abbrev pub packet_top : Result Sent Refusal → ℕ
+  packet_top (Ok (heartbeat next session)) = pred next
+  packet_top (Ok (messages number ms)) = last_of number ms
+  packet_top (Err why) = 0
 
-  abbrev pub snapshot-top : Result Snapshot Refusal → ℕ
-  snapshot-top (Ok snap) = pred snap.next
-  snapshot-top (Err why) = 0
+  abbrev pub snapshot_top : Result Snapshot Refusal → ℕ
+  snapshot_top (Ok snap) = pred snap.next
+  snapshot_top (Err why) = 0
 
   abbrev pub top : Call → ℕ
   top start_at_one = 0
   top start_by_snapshot = 0
   top stop = 0
-  top (packet bytes) = packet-top (packet_of bytes)
-  top (snapshot bytes) = snapshot-top (snapshot-alone bytes)
+  top (packet bytes) = packet_top (packet_of bytes)
+  top (snapshot bytes) = snapshot_top (snapshot_alone bytes)
   top (repair source budget) = 0
   top show_lamp = 0
   top (ask q) = 0
 
   -- the highest number heard in some calls, from the calls alone
-  unfoldable pub highest-in : List Call → ℕ
-  highest-in [] = 0
-  highest-in (c ∷ cs) = max (highest-in cs) (top c)
+  unfoldable pub highest_in : List Call → ℕ
+  highest_in [] = 0
+  highest_in (c ∷ cs) = max (highest_in cs) (top c)
 
   -- a packet belongs to a day if each message is the day's of its number, and any session the day's
-  abbrev pub Packet-belongs : Day → Result Sent Refusal → Type 0
-  Packet-belongs day (Ok (heartbeat next session)) = session ≡ day.session
-  Packet-belongs day (Ok (messages number ms)) = Ours day number ms
-  Packet-belongs day (Err why) = Unit {0}
+  abbrev pub PacketBelongs : Day → Result Sent Refusal → Type 0
+  PacketBelongs day (Ok (heartbeat next session)) = session ≡ day.session
+  PacketBelongs day (Ok (messages number ms)) = Ours day number ms
+  PacketBelongs day (Err why) = Unit {0}
 
   -- a snapshot, if its session is the day's, and its book the plain book after the messages before its End's number
-  abbrev pub Snapshot-belongs : Day → Result Snapshot Refusal → Type 0
-  Snapshot-belongs day (Ok snap) =
+  abbrev pub SnapshotBelongs : Day → Result Snapshot Refusal → Type 0
+  SnapshotBelongs day (Ok snap) =
       (snap.session ≡ day.session) × (whole_run room.for_book day (pred snap.next) ≡ reached snap.book)
-  Snapshot-belongs day (Err why) = Unit {0}
+  SnapshotBelongs day (Err why) = Unit {0}
 
   -- a source, if its session is the day's, and each message that it holds the day's of its number
-  abbrev pub Source-belongs : Day → Meaning → Type 0
-  Source-belongs day source =
+  abbrev pub SourceBelongs : Day → Meaning → Type 0
+  SourceBelongs day source =
       (source.session ≡ day.session) × ((k : ℕ) (m : List ℕ) → source.held k ≡ Some m → message_of day k ≡ Some m)
 
   abbrev pub Belongs : Day → Call → Type 0
   Belongs day start_at_one = Unit {0}
   Belongs day start_by_snapshot = Unit {0}
   Belongs day stop = Unit {0}
-  Belongs day (packet bytes) = Packet-belongs day (packet_of bytes)
-  Belongs day (snapshot bytes) = Snapshot-belongs day (snapshot-alone bytes)
-  Belongs day (repair source budget) = Source-belongs day source
+  Belongs day (packet bytes) = PacketBelongs day (packet_of bytes)
+  Belongs day (snapshot bytes) = SnapshotBelongs day (snapshot_alone bytes)
+  Belongs day (repair source budget) = SourceBelongs day source
   Belongs day show_lamp = Unit {0}
   Belongs day (ask q) = Unit {0}
 
-  unfoldable pub All-belong : Day → List Call → Type 0
-  All-belong day [] = Unit {0}
-  All-belong day (c ∷ cs) = Belongs day c × All-belong day cs
+  unfoldable pub AllBelong : Day → List Call → Type 0
+  AllBelong day [] = Unit {0}
+  AllBelong day (c ∷ cs) = Belongs day c × AllBelong day cs

@@ -138,17 +138,17 @@ last_of number ms = pred (number + length ms)
 
 module _ (room : Room) where
   -- held messages that are wanted run in turn; they ascend, and none is below the wanted number
-  unfoldable pub run-held : Plain → ℕ → List Held → Place
-  run-held book w [] = wanting (record { book = book; wanted = w }) []
-  run-held book w (h ∷ held) =
+  unfoldable pub run_held : Plain → ℕ → List Held → Place
+  run_held book w [] = wanting (record { book = book; wanted = w }) []
+  run_held book w (h ∷ held) =
       cond (h.number == w)
-      (going_on w (ran room.for_book book h.bytes) (λ b. run-held b (suc w) held))
+      (going_on w (ran room.for_book book h.bytes) (λ b. run_held b (suc w) held))
       (wanting (record { book = book; wanted = w }) (h ∷ held))
 
   -- the wanted message runs on the book, the wanted number grows by 1, and held messages follow
-  unfoldable pub run-wanted : Wanting → List ℕ → List Held → Place
-  run-wanted b message held =
-      going_on b.wanted (ran room.for_book b.book message) (λ book. run-held book (suc b.wanted) held)
+  unfoldable pub run_wanted : Wanting → List ℕ → List Held → Place
+  run_wanted b message held =
+      going_on b.wanted (ran room.for_book b.book message) (λ book. run_held book (suc b.wanted) held)
 
   -- a message that is not wanted yet: repeated if already held, held if a slot is free, else dropped
   abbrev pub kept : (List Held → Place) → List Held → ℕ → List ℕ → Fate × Place
@@ -162,7 +162,7 @@ module _ (room : Room) where
   treated (bookless held) k message = kept bookless held k message
   treated (wanting b held) k message =
       cond (nat_lt k b.wanted) (repeated, wanting b held)
-      (cond (k == b.wanted) (taken, run-wanted b message held)
+      (cond (k == b.wanted) (taken, run_wanted b message held)
       (kept (wanting b) held k message))
 
   -- each message of a packet in turn, the first numbered k
@@ -176,13 +176,13 @@ module _ (room : Room) where
 
   -- a packet: a heartbeat makes the session known and raises the highest number to its own less 1,
   -- data raise it to their last number
-  abbrev pub on-packet : Started → Result Sent Refusal → Outcome
-  on-packet s (Err why) = refused why
-  on-packet s (Ok (heartbeat next session)) =
+  abbrev pub on_packet : Started → Result Sent Refusal → Outcome
+  on_packet s (Err why) = refused why
+  on_packet s (Ok (heartbeat next session)) =
       cond (agrees s.session session)
       (accepted (settled (Some session) (max s.highest (pred next)) (place_of s.book s.held)) (counted no_counts))
       (refused refusal.OtherSession)
-  on-packet s (Ok (messages number ms)) =
+  on_packet s (Ok (messages number ms)) =
       accepted
       (settled s.session (max s.highest (last_of number ms)) (place_after (place_of s.book s.held) number ms))
       (counted (counts_of (place_of s.book s.held) number ms))
@@ -195,16 +195,16 @@ module _ (room : Room) where
       (completed o.session (run_there room.for_book (carried o.follow) empty))
       (Err refusal.OtherSession)
 
-  unfoldable pub snapshot-of : Option Session → List ℕ → Result Snapshot Refusal
-  snapshot-of known bytes = opened known (of_mode (opening (session_messages bytes)))
+  unfoldable pub snapshot_of : Option Session → List ℕ → Result Snapshot Refusal
+  snapshot_of known bytes = opened known (of_mode (opening (session_messages bytes)))
 
   -- a completed one: held messages below its number are let go, and those from it on run
-  abbrev pub on-snapshot : Started → Result Snapshot Refusal → Outcome
-  on-snapshot s (Err why) = refused why
-  on-snapshot s (Ok snap) =
+  abbrev pub on_snapshot : Started → Result Snapshot Refusal → Outcome
+  on_snapshot s (Err why) = refused why
+  on_snapshot s (Ok snap) =
       accepted
       (settled (Some snap.session) (max s.highest (pred snap.next))
-      (run-held snap.book snap.next (held_from snap.next s.held)))
+      (run_held snap.book snap.next (held_from snap.next s.held)))
       (snapshot_taken snap.next)
 
   -- a repair, with a budget and the highest number heard: it ends when red, green, at its budget, or where the source
@@ -215,70 +215,70 @@ module _ (room : Room) where
   mended source k zero (wanting b held) = ends (wanting b held) (cond (nat_le b.wanted k) ending.Budget ending.Green)
   mended source k (suc budget) (wanting b held) =
       cond (nat_le b.wanted k)
-      (fetching (source b.wanted) (wanting b held) (λ message. mended source k budget (run-wanted b message held)))
+      (fetching (source b.wanted) (wanting b held) (λ message. mended source k budget (run_wanted b message held)))
       (ends (wanting b held) ending.Green)
 
-  abbrev pub on-mended : Session → ℕ → Mended → Outcome
-  on-mended session k m = accepted (settled (Some session) k m.place) (repaired m.fetched m.ending)
+  abbrev pub on_mended : Session → ℕ → Mended → Outcome
+  on_mended session k m = accepted (settled (Some session) k m.place) (repaired m.fetched m.ending)
 
-  abbrev pub unless-waiting : Lamp → Outcome → Outcome
-  unless-waiting lamp.Waiting o = refused refusal.Waiting
-  unless-waiting lamp.Dark o = o
-  unless-waiting (lamp.Red k cause) o = o
-  unless-waiting (lamp.Gap w k) o = o
-  unless-waiting (lamp.Green w) o = o
+  abbrev pub unless_waiting : Lamp → Outcome → Outcome
+  unless_waiting lamp.Waiting o = refused refusal.Waiting
+  unless_waiting lamp.Dark o = o
+  unless_waiting (lamp.Red k cause) o = o
+  unless_waiting (lamp.Gap w k) o = o
+  unless_waiting (lamp.Green w) o = o
 
-  abbrev pub on-repair : Started → Meaning → ℕ → Outcome
-  on-repair s source budget =
+  abbrev pub on_repair : Started → Meaning → ℕ → Outcome
+  on_repair s source budget =
       cond (agrees s.session source.session)
-      (unless-waiting (lamp_at s.book s.heard s.highest)
-      (on-mended source.session s.highest (mended source.held s.highest budget (place_of s.book s.held))))
+      (unless_waiting (lamp_at s.book s.heard s.highest)
+      (on_mended source.session s.highest (mended source.held s.highest budget (place_of s.book s.held))))
       (refused refusal.OtherSession)
 
   -- a question is answered by the book while the lamp is green
-  abbrev pub on-question : Lamp → Option Wanting → State → Question → Outcome
-  on-question (lamp.Green w) (Some b) state q = told state (answered b.book q)
-  on-question (lamp.Green w) None state q = refused (refusal.NotGreen (lamp.Green w))
-  on-question lamp.Waiting book state q = refused (refusal.NotGreen lamp.Waiting)
-  on-question lamp.Dark book state q = refused (refusal.NotGreen lamp.Dark)
-  on-question (lamp.Red k cause) book state q = refused (refusal.NotGreen (lamp.Red k cause))
-  on-question (lamp.Gap w k) book state q = refused (refusal.NotGreen (lamp.Gap w k))
+  abbrev pub on_question : Lamp → Option Wanting → State → Question → Outcome
+  on_question (lamp.Green w) (Some b) state q = told state (answered b.book q)
+  on_question (lamp.Green w) None state q = refused (refusal.NotGreen (lamp.Green w))
+  on_question lamp.Waiting book state q = refused (refusal.NotGreen lamp.Waiting)
+  on_question lamp.Dark book state q = refused (refusal.NotGreen lamp.Dark)
+  on_question (lamp.Red k cause) book state q = refused (refusal.NotGreen (lamp.Red k cause))
+  on_question (lamp.Gap w k) book state q = refused (refusal.NotGreen (lamp.Gap w k))
 
-  unfoldable pub while-started : Started → Call → Outcome
-  while-started s start_at_one = refused refusal.NotDark
-  while-started s start_by_snapshot = refused refusal.NotDark
-  while-started s stop = accepted dark done
-  while-started s (packet bytes) = on-packet s (packet_of bytes)
-  while-started s (snapshot bytes) = cond (is_some s.book) (refused refusal.HasBook) (on-snapshot s (snapshot-of s.session bytes))
-  while-started s (repair source budget) = on-repair s source budget
-  while-started s show_lamp = accepted (started s) (lamp_shown (lamp_of (started s)))
-  while-started s (ask q) = on-question (lamp_at s.book s.heard s.highest) s.book (started s) q
+  unfoldable pub while_started : Started → Call → Outcome
+  while_started s start_at_one = refused refusal.NotDark
+  while_started s start_by_snapshot = refused refusal.NotDark
+  while_started s stop = accepted dark done
+  while_started s (packet bytes) = on_packet s (packet_of bytes)
+  while_started s (snapshot bytes) = cond (is_some s.book) (refused refusal.HasBook) (on_snapshot s (snapshot_of s.session bytes))
+  while_started s (repair source budget) = on_repair s source budget
+  while_started s show_lamp = accepted (started s) (lamp_shown (lamp_of (started s)))
+  while_started s (ask q) = on_question (lamp_at s.book s.heard s.highest) s.book (started s) q
 
-  unfoldable pub while-dark : Call → Outcome
-  while-dark start_at_one = accepted (begun from_one) done
-  while-dark start_by_snapshot = accepted (begun None) done
-  while-dark stop = refused refusal.Dark
-  while-dark (packet bytes) = refused refusal.Dark
-  while-dark (snapshot bytes) = refused refusal.Dark
-  while-dark (repair source budget) = refused refusal.Dark
-  while-dark show_lamp = accepted dark (lamp_shown (lamp_of dark))
-  while-dark (ask q) = refused refusal.Dark
+  unfoldable pub while_dark : Call → Outcome
+  while_dark start_at_one = accepted (begun from_one) done
+  while_dark start_by_snapshot = accepted (begun None) done
+  while_dark stop = refused refusal.Dark
+  while_dark (packet bytes) = refused refusal.Dark
+  while_dark (snapshot bytes) = refused refusal.Dark
+  while_dark (repair source budget) = refused refusal.Dark
+  while_dark show_lamp = accepted dark (lamp_shown (lamp_of dark))
+  while_dark (ask q) = refused refusal.Dark
 
-  unfoldable pub while-red : ℕ → Cause → Call → Outcome
-  while-red k cause start_at_one = refused refusal.NotDark
-  while-red k cause start_by_snapshot = refused refusal.NotDark
-  while-red k cause stop = accepted dark done
-  while-red k cause (packet bytes) = refused refusal.Red
-  while-red k cause (snapshot bytes) = refused refusal.Red
-  while-red k cause (repair source budget) = refused refusal.Red
-  while-red k cause show_lamp = accepted (red k cause) (lamp_shown (lamp_of (red k cause)))
-  while-red k cause (ask q) = refused refusal.Red
+  unfoldable pub while_red : ℕ → Cause → Call → Outcome
+  while_red k cause start_at_one = refused refusal.NotDark
+  while_red k cause start_by_snapshot = refused refusal.NotDark
+  while_red k cause stop = accepted dark done
+  while_red k cause (packet bytes) = refused refusal.Red
+  while_red k cause (snapshot bytes) = refused refusal.Red
+  while_red k cause (repair source budget) = refused refusal.Red
+  while_red k cause show_lamp = accepted (red k cause) (lamp_shown (lamp_of (red k cause)))
+  while_red k cause (ask q) = refused refusal.Red
 
   -- how a call comes out: the one definition of the follower
   unfoldable pub outcome : State → Call → Outcome
-  outcome dark call = while-dark call
-  outcome (red k cause) call = while-red k cause call
-  outcome (started s) call = while-started s call
+  outcome dark call = while_dark call
+  outcome (red k cause) call = while_red k cause call
+  outcome (started s) call = while_started s call
 
 -- the state after a call
 abbrev pub moved : Outcome → State → State

@@ -50,7 +50,7 @@ use Rattle.following.specs.Calls.{
   told,
 }
 use Rattle.following.specs.Follower.{agrees, outcome}
-use Rattle.following.specs.Days.{Day, reached, stops, whole_run, after, since, highest-in, All-belong}
+use Rattle.following.specs.Days.{Day, reached, stops, whole_run, after, since, highest_in, AllBelong}
 use Rattle.following.specs.declared.answers.Counts.{Counts}
 use Rattle.following.specs.declared.answers.Ending.{Ending}
 use Rattle.following.specs.declared.answers.Ending.TheVariants as ending
@@ -74,9 +74,9 @@ module _ (room : Room) where
   -- green, wanting n: the highest number heard is n - 1, and every question comes out as the whole run after the day's
   -- first n - 1 messages answers or refuses it
   pub record Right (history : List Call) (day : Day) (n : ℕ) : Type 0 where
-    pub last : n ≡ suc (highest-in room (since room history))
+    pub last : n ≡ suc (highest_in room (since room history))
     pub book : Plain
-    pub run : whole_run room.for_book day (highest-in room (since room history)) ≡ reached book
+    pub run : whole_run room.for_book day (highest_in room (since room history)) ≡ reached book
     pub asks : (q : Question) → outcome room (after room history) (ask q) ≡ told (after room history) (answered book q)
 
   -- a question is refused: by 1, 3 or 14
@@ -97,14 +97,14 @@ module _ (room : Room) where
 
   pub record Promise (history : List Call) (day : Day) : Type 0 where
     -- (a) no false green
-    pub green-right : (n : ℕ) → lamp_of (after room history) ≡ lamp.Green n → Right history day n
-    pub no-book : ((n : ℕ) → lamp_of (after room history) ≢ lamp.Green n) → (q : Question) → Refuses (after room history) q
+    pub green_right : (n : ℕ) → lamp_of (after room history) ≡ lamp.Green n → Right history day n
+    pub no_book : ((n : ℕ) → lamp_of (after room history) ≢ lamp.Green n) → (q : Question) → Refuses (after room history) q
     -- (b) no needless red
-    pub red-right :
+    pub red_right :
         (k : ℕ) (cause : Cause) → lamp_of (after room history) ≡ lamp.Red k cause
         → whole_run room.for_book day (length day.messages) ≡ stops k cause
     -- (c) never green is ruled out
-    pub gap-mends :
+    pub gap_mends :
         (w k : ℕ) → lamp_of (after room history) ≡ lamp.Gap w k
         → (source : Meaning) (budget : ℕ) → source.session ≡ day.session
         → Covers source w k (held_of (after room history))
@@ -114,7 +114,7 @@ module _ (room : Room) where
 -- the law: for any numbers of slots, every history, and every day to which all that was accepted since the last accepted
 -- start belongs
 abbrev pub Law : Type 0
-Law = (room : Room) (history : List Call) (day : Day) → All-belong room day (since room history) → Promise room history day
+Law = (room : Room) (history : List Call) (day : Day) → AllBelong room day (since room history) → Promise room history day
 
 -- a refused call changes nothing
 abbrev pub RefusalsChangeNothing : Type 0
@@ -162,7 +162,7 @@ LampIsShown =
 abbrev pub HighestHeard : Type 0
 HighestHeard =
     (room : Room) (history : List Call) (s : Started)
-    → after room history ≡ started s → s.highest ≡ highest-in room (since room history)
+    → after room history ≡ started s → s.highest ≡ highest_in room (since room history)
 
 -- an outcome is accepted, and answers counts
 abbrev pub IsCounted : Outcome → Type 0

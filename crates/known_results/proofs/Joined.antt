@@ -2,10 +2,10 @@
 use Rattle.std.proofs.Common.{◌≡◌, refl}
 use Rattle.table.specs.Rows.{below}
 use Rattle.following.specs.States.{lamp_of}
-use Rattle.following.specs.Follower.{settled, run-held, while-started, outcome}
+use Rattle.following.specs.Follower.{settled, run_held, while_started, outcome}
 use Rattle.known_results.specs.Joins.{GapAmongHeld}
 
 pub gap_among_held : GapAmongHeld
-unfolding below lamp_of settled run-held while-started outcome
-gap_among_held room s m n o bytes snap book no-book highest held completed next runs =
-    simp (no-book, completed, next, held, runs, highest)
+unfolding below lamp_of settled run_held while_started outcome
+gap_among_held room s m n o bytes snap book no_book highest held completed next runs =
+    simp (no_book, completed, next, held, runs, highest)

@@ -74,13 +74,13 @@ held_sized r n =
 -- a walk from a place where the reader agrees with its first message
 module _ (r : Recovery) (n s : ℕ) (ms : List (List ℕ)) (small : n ≤ most32) (low : s ≤ n)
     (same : (k : ℕ) → s ≤ k → numbered_from s ms k ≡ numbered_from r.first (still_carried r.all) k) where
-  held-is : (meaning_of r).held n ≡ option_map messageOf (behind (n - s) ms)
-  held-is = cond-true _ _ _ (le-leb n most32 small) ∙ sym (same n low) ∙ numbered_behind (n - s) s n ms (omega arith)
+  held_is : (meaning_of r).held n ≡ option_map messageOf (behind (n - s) ms)
+  held_is = cond-true _ _ _ (le-leb n most32 small) ∙ sym (same n low) ∙ numbered_behind (n - s) s n ms (omega arith)
 
   pub found_from : (o : Option Walked) → o ≡ behind (n - s) ms → Finds r n o
-  found_from None e = held-is ∙ ap (option_map messageOf) (sym e)
+  found_from None e = held_is ∙ ap (option_map messageOf) (sym e)
   found_from (Some w) e =
-      let held = held-is ∙ ap (option_map messageOf) (sym e) in
+      let held = held_is ∙ ap (option_map messageOf) (sym e) in
       let sized = subst Sized held (held_sized r n) in
       let from : n + 1 ≡ s + (n - s) + 1 = omega arith in
       record {

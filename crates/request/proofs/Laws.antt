@@ -38,44 +38,44 @@ module _ (l : Login) (sized : Sized l) where
   at29 : length (login_header ++ l.user ++ l.password ++ l.session.bytes) ≡ 29
   at29 = length-append (login_header ++ l.user ++ l.password) l.session.bytes ∙ omega (arith, at19, sized.session)
 
-  bytes-length : length (login_bytes l) ≡ 39
-  bytes-length = length-append (login_header ++ l.user ++ l.password ++ l.session.bytes) (number_field l.number) ∙ omega (arith, at29, ten)
+  bytes_length : length (login_bytes l) ≡ 39
+  bytes_length = length-append (login_header ++ l.user ++ l.password ++ l.session.bytes) (number_field l.number) ∙ omega (arith, at29, ten)
 
-  at-user : part 3 6 (login_bytes l) ≡ l.user
-  at-user = ap (part 3 6) joined ∙ part_at login_header l.user _ 3 6 refl sized.user
+  at_user : part 3 6 (login_bytes l) ≡ l.user
+  at_user = ap (part 3 6) joined ∙ part_at login_header l.user _ 3 6 refl sized.user
 
-  at-password : part 9 10 (login_bytes l) ≡ l.password
-  at-password = ap (part 9 10) joined ∙ part_at (login_header ++ l.user) l.password _ 9 10 (omega (arith, sized.user)) sized.password
+  at_password : part 9 10 (login_bytes l) ≡ l.password
+  at_password = ap (part 9 10) joined ∙ part_at (login_header ++ l.user) l.password _ 9 10 (omega (arith, sized.user)) sized.password
 
-  at-session : part 19 10 (login_bytes l) ≡ l.session.bytes
-  at-session =
+  at_session : part 19 10 (login_bytes l) ≡ l.session.bytes
+  at_session =
       let front = login_header ++ l.user ++ l.password in
       ap (part 19 10) (append_assoc front l.session.bytes (number_field l.number))
       ∙ part_at front l.session.bytes _ 19 10 at19 sized.session
 
-  at-number : part 29 10 (login_bytes l) ≡ number_field l.number
-  at-number =
+  at_number : part 29 10 (login_bytes l) ≡ number_field l.number
+  at_number =
       ap (take 10) (drop_at (login_header ++ l.user ++ l.password ++ l.session.bytes) _ 29 at29) ∙ take_all 10 _ (omega (arith, ten))
 
   fields_read : login_of (login_bytes l) ≡ Some l
   fields_read =
       let m = login_bytes l in
-      let session : session_of (part 19 10 m) ≡ Some l.session = ap session_of at-session ∙ cond-true _ _ _ (eq-eqb (length l.session.bytes) 10 sized.session) in
-      let number : number_of (part 29 10 m) ≡ Some l.number = ap number_of at-number ∙ reads_back l.number sized.number in
-      cond-true _ _ _ (eq-eqb (length m) 39 bytes-length)
+      let session : session_of (part 19 10 m) ≡ Some l.session = ap session_of at_session ∙ cond-true _ _ _ (eq-eqb (length l.session.bytes) 10 sized.session) in
+      let number : number_of (part 29 10 m) ≡ Some l.number = ap number_of at_number ∙ reads_back l.number sized.number in
+      cond-true _ _ _ (eq-eqb (length m) 39 bytes_length)
       ∙ ap (λ s. login_by m s (number_of (part 29 10 m))) session ∙ ap (login_by m (Some l.session)) number
-      ∙ ap (λ u. Some (record { user = u; password = part 9 10 m; session = l.session; number = l.number })) at-user
-      ∙ ap (λ p. Some (record { user = l.user; password = p; session = l.session; number = l.number })) at-password
+      ∙ ap (λ u. Some (record { user = u; password = part 9 10 m; session = l.session; number = l.number })) at_user
+      ∙ ap (λ p. Some (record { user = l.user; password = p; session = l.session; number = l.number })) at_password
 
-  login-reads : request_of (login_bytes l) ≡ Ok (request.Login l)
+  login_reads : request_of (login_bytes l) ≡ Ok (request.Login l)
   unfolding request_of
-  login-reads =
-      let letter : letter_of (login_bytes l) ≡ Ok 76 = cond-true _ _ _ (eq-eqb (length (login_bytes l)) 39 bytes-length) in
+  login_reads =
+      let letter : letter_of (login_bytes l) ≡ Ok 76 = cond-true _ _ _ (eq-eqb (length (login_bytes l)) 39 bytes_length) in
       ap (λ o. request_by o (login_bytes l)) letter ∙ ap as_login fields_read
 
 pub written_reads : (r : Request) → Allowed r → request_of (request_bytes r) ≡ Ok r
 unfolding request_of
-written_reads (request.Login l) sized = login-reads l sized
+written_reads (request.Login l) sized = login_reads l sized
 written_reads request.Logout allowed = refl
 written_reads request.Heartbeat allowed = refl
 
@@ -93,28 +93,28 @@ module _ (m : List ℕ) (b : ℕ) (e : letter_of m ≡ Ok b) where
   size_is : length m ≡ 2 + be16 m 0
   size_is = grind (arith, nat_tests)
 
-  size-some : 1 ≤ be16 m 0
-  size-some = grind (arith, nat_tests)
+  size_some : 1 ≤ be16 m 0
+  size_some = grind (arith, nat_tests)
 
-  letter-is : get_or m 2 0 ≡ b
-  letter-is = grind (arith, nat_tests)
+  letter_is : get_or m 2 0 ≡ b
+  letter_is = grind (arith, nat_tests)
 
-  front-is : (size : ℕ) → size < 256 → length m ≡ 2 + size → m ≡ 0 ∷ size ∷ b ∷ drop 3 m
-  front-is size small long =
+  front_is : (size : ℕ) → size < 256 → length m ≡ 2 + size → m ≡ 0 ∷ size ∷ b ∷ drop 3 m
+  front_is size small long =
       let high : get_or m 0 0 ≡ 0 = omega (arith, size_is) in
       let low : get_or m 1 0 ≡ size = omega (arith, size_is) in
-      let letter = letter-is in
+      let letter = letter_is in
       let first = drop_more m 0 0 (omega arith) in
-      let second = drop_more m 1 0 (omega (arith, size_is, size-some)) in
-      let third = drop_more m 2 0 (omega (arith, size_is, size-some)) in
+      let second = drop_more m 1 0 (omega (arith, size_is, size_some)) in
+      let third = drop_more m 2 0 (omega (arith, size_is, size_some)) in
       cc
 
-  alone-written : (q r : Request) → Allowed q → request_bytes q ≡ 0 ∷ 1 ∷ b ∷ [] → alone_as q m ≡ Ok r → Written m r
-  alone-written q r allowed bytes h =
+  alone_written : (q r : Request) → Allowed q → request_bytes q ≡ 0 ∷ 1 ∷ b ∷ [] → alone_as q m ≡ Ok r → Written m r
+  alone_written q r allowed bytes h =
       let three = cond_ok (eqb (length m) 3) q r h in
       let long = eqb-true (length m) 3 three.0 in
       let none = drop_all 3 m (omega arith) in
-      subst (Written m) three.1 (allowed, front-is 1 (omega arith) long ∙ ap (λ rest. 0 ∷ 1 ∷ b ∷ rest) none ∙ sym bytes)
+      subst (Written m) three.1 (allowed, front_is 1 (omega arith) long ∙ ap (λ rest. 0 ∷ 1 ∷ b ∷ rest) none ∙ sym bytes)
 
 -- the four fields
 as_login_is : (o : Option Login) (r : Request) → as_login o ≡ Ok r → (l : Login) × (o ≡ Some l) × (request.Login l ≡ r)
@@ -151,7 +151,7 @@ login_read m l e h =
         session = ap length session ∙ part_length m 19 10 (omega arith);
         number = number_within (part 29 10 m) l.number fields.3;
       },
-      front-is m 76 e 37 (omega arith) long
+      front_is m 76 e 37 (omega arith) long
           ∙ ap (λ r. login_header ++ r) (split m 3 6
           ∙ ap (λ r. part 3 6 m ++ r) (split m 9 10
           ∙ ap (λ r. part 9 10 m ++ r) (split m 19 10
@@ -167,22 +167,22 @@ not_ok : {X : Type 0} (refusal : Refusal) (r : Request) → ◌≡◌ {A = Resul
 not_ok refusal r e = let z : ◌≡◌ {A = ℕ} 0 1 = cc in absurd (omega arith)
 
 module _ (m : List ℕ) (b : ℕ) (r : Request) (e : letter_of m ≡ Ok b) where
-  by-heartbeat : (t : Bool) → eqb b 82 ≡ t → cond t (alone_as request.Heartbeat m) (Err NoRequest) ≡ Ok r → Written m r
-  by-heartbeat true t h = alone-written m b e request.Heartbeat r tt (ap (λ x. 0 ∷ 1 ∷ x ∷ []) (sym (eqb-true b 82 t))) h
-  by-heartbeat false t h = not_ok NoRequest r h
+  by_heartbeat : (t : Bool) → eqb b 82 ≡ t → cond t (alone_as request.Heartbeat m) (Err NoRequest) ≡ Ok r → Written m r
+  by_heartbeat true t h = alone_written m b e request.Heartbeat r tt (ap (λ x. 0 ∷ 1 ∷ x ∷ []) (sym (eqb-true b 82 t))) h
+  by_heartbeat false t h = not_ok NoRequest r h
 
-  by-logout : (t : Bool) → eqb b 79 ≡ t → cond t (alone_as request.Logout m) (cond (eqb b 82) (alone_as request.Heartbeat m) (Err NoRequest)) ≡ Ok r → Written m r
-  by-logout true t h = alone-written m b e request.Logout r tt (ap (λ x. 0 ∷ 1 ∷ x ∷ []) (sym (eqb-true b 79 t))) h
-  by-logout false t h = by-heartbeat (eqb b 82) refl h
+  by_logout : (t : Bool) → eqb b 79 ≡ t → cond t (alone_as request.Logout m) (cond (eqb b 82) (alone_as request.Heartbeat m) (Err NoRequest)) ≡ Ok r → Written m r
+  by_logout true t h = alone_written m b e request.Logout r tt (ap (λ x. 0 ∷ 1 ∷ x ∷ []) (sym (eqb-true b 79 t))) h
+  by_logout false t h = by_heartbeat (eqb b 82) refl h
 
-  by-login : (t : Bool) → eqb b 76 ≡ t → cond t (as_login (login_of m)) (cond (eqb b 79) (alone_as request.Logout m) (cond (eqb b 82) (alone_as request.Heartbeat m) (Err NoRequest))) ≡ Ok r → Written m r
-  by-login true t h =
+  by_login : (t : Bool) → eqb b 76 ≡ t → cond t (as_login (login_of m)) (cond (eqb b 79) (alone_as request.Logout m) (cond (eqb b 82) (alone_as request.Heartbeat m) (Err NoRequest))) ≡ Ok r → Written m r
+  by_login true t h =
       let l = as_login_is (login_of m) r h in
       subst (Written m) l.2 (login_read m l.0 (e ∙ ap Ok (eqb-true b 76 t)) l.1)
-  by-login false t h = by-logout (eqb b 79) refl h
+  by_login false t h = by_logout (eqb b 79) refl h
 
 by_any : (m : List ℕ) (r : Request) (o : Result ℕ Refusal) → letter_of m ≡ o → request_by o m ≡ Ok r → Written m r
-by_any m r (Ok b) e h = by-login m b r e (eqb b 76) refl h
+by_any m r (Ok b) e h = by_login m b r e (eqb b 76) refl h
 by_any m r (Err refusal) e h = not_ok refusal r h
 
 read_written : (m : List ℕ) (r : Request) → request_of m ≡ Ok r → Written m r

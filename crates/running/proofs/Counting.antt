@@ -41,16 +41,16 @@ countable c n m l b = (omega arith, omega arith, omega arith, omega arith)
 -- the first message, and those behind it
 module _ (room : Room) (p q : Place) (f : Fate) (n next : ℕ) (m : List ℕ) (ms rest : List (List ℕ))
     (e : ms ≡ m ∷ rest) (s : next ≡ n + 1) (t : (f, q) ≡ treated room p n m) where
-  pub place-next : place_after room p n ms ≡ place_after room q next rest
+  pub place_next : place_after room p n ms ≡ place_after room q next rest
   unfolding place_after
-  place-next =
+  place_next =
       ap (place_after room p n) e
       ∙ ap (λ (o : Fate × Place). place_after room o.1 (suc n) rest) (sym t)
       ∙ ap (λ k. place_after room q k rest) (sym (s ∙ add-one n))
 
-  pub counts-next : counts_of room p n ms ≡ count_one f (counts_of room q next rest)
+  pub counts_next : counts_of room p n ms ≡ count_one f (counts_of room q next rest)
   unfolding counts_of
-  counts-next =
+  counts_next =
       ap (counts_of room p n) e
       ∙ ap (λ (o : Fate × Place). count_one o.0 (counts_of room o.1 (suc n) rest)) (sym t)
       ∙ ap (λ k. count_one f (counts_of room q k rest)) (sym (s ∙ add-one n))

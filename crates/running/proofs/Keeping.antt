@@ -11,7 +11,7 @@ use Rattle.table.specs.declared.NotAdded.TheVariants.{Present, Full}
 use Rattle.book.specs.Keys.{by_number}
 use Rattle.book.specs.Plain.{Plain}
 use Rattle.following.specs.States.{Room, Held, Wanting, number_of, is_held, with_held}
-use Rattle.following.specs.Follower.{Place, bookless, wanting, Fate, kept, treated, run-wanted}
+use Rattle.following.specs.Follower.{Place, bookless, wanting, Fate, kept, treated, run_wanted}
 use Rattle.following.specs.Follower as spec
 use Rattle.running.specs.declared.rows.HeldRow.{HeldRow}
 use Rattle.running.specs.declared.runner.Runner.{Runner}
@@ -125,43 +125,43 @@ kept_of room row xs k m r after n b e a place =
 
 -- one message of a packet, by where the messages have led
 module _ (room : Room) (before : Runner) (reached : Reached) (k : ℕ) (m : List ℕ) where
-  pub treated-stopped :
+  pub treated_stopped :
       (n : ℕ) (cause : Cause) → reached ≡ led.Stopped n cause →
       (spec.unread, place_in before reached) ≡ treated room (place_in before reached) k m
   unfolding treated
-  treated-stopped n cause e = let P : Reached → Type 0 = λ r. (spec.unread, place_in before r) ≡ treated room (place_in before r) k m in subst P (sym e) refl
+  treated_stopped n cause e = let P : Reached → Type 0 = λ r. (spec.unread, place_in before r) ≡ treated room (place_in before r) k m in subst P (sym e) refl
 
-  pub treated-bookless :
+  pub treated_bookless :
       (after : Runner) (fate : Fate) → reached ≡ led.NoBook →
       (fate, bookless (held_in after)) ≡ kept room bookless (held_in before) k m →
       (fate, place_in after reached) ≡ treated room (place_in before reached) k m
   unfolding treated
-  treated-bookless after fate e h = let P : Reached → Type 0 = λ r. (fate, place_in after r) ≡ treated room (place_in before r) k m in subst P (sym e) h
+  treated_bookless after fate e h = let P : Reached → Type 0 = λ r. (fate, place_in after r) ≡ treated room (place_in before r) k m in subst P (sym e) h
 
   module _ (w : ℕ) (e : reached ≡ led.Wanting w) where
     abbrev here : Wanting
     here = record { book = book_in before; wanted = w }
 
-    pub treated-below : k < w → (spec.repeated, wanting here (held_in before)) ≡ treated room (place_in before reached) k m
+    pub treated_below : k < w → (spec.repeated, wanting here (held_in before)) ≡ treated room (place_in before reached) k m
     unfolding treated
-    treated-below l =
+    treated_below l =
         sym (cond-true _ _ _ (lt-ltb k w l))
         ∙ ap (λ r. treated room (place_in before r) k m) (sym e)
 
-    pub treated-wanted : k ≡ w → (place : Place) → place ≡ run-wanted room here m (held_in before) → (spec.taken, place) ≡ treated room (place_in before reached) k m
+    pub treated_wanted : k ≡ w → (place : Place) → place ≡ run_wanted room here m (held_in before) → (spec.taken, place) ≡ treated room (place_in before reached) k m
     unfolding treated
-    treated-wanted q place h =
+    treated_wanted q place h =
         ap (λ p. (spec.taken, p)) h
         ∙ sym (cond-true _ _ _ (eq-eqb k w q))
         ∙ sym (cond-false _ _ _ (le-ltb k w (omega arith)))
         ∙ ap (λ r. treated room (place_in before r) k m) (sym e)
 
-    pub treated-above :
+    pub treated_above :
         w ≤ k → (k ≡ w → ⊥) → (book : Plain) (fate : Fate) (held : List Held) → book ≡ book_in before →
         (fate, wanting here held) ≡ kept room (wanting here) (held_in before) k m →
         (fate, wanting (record { book = book; wanted = w }) held) ≡ treated room (place_in before reached) k m
     unfolding treated
-    treated-above l n book fate held b h =
+    treated_above l n book fate held b h =
         ap (λ x. (fate, wanting (record { book = x; wanted = w }) held)) b
         ∙ h
         ∙ sym (cond-false _ _ _ (ne_eqb k w n))

@@ -5,7 +5,7 @@ use Rattle.std.proofs.lemmas.Bool.{le-leb, lt-leb}
 use Rattle.codes.specs.declared.cause.Cause.{Cause}
 use Rattle.source.specs.Meanings.{answer, written}
 use Rattle.following.specs.States.{Room, Held, Wanting}
-use Rattle.following.specs.Follower.{Place, bookless, wanting, stopped, Mended, ends, fetched_one, run-wanted, mended}
+use Rattle.following.specs.Follower.{Place, bookless, wanting, stopped, Mended, ends, fetched_one, run_wanted, mended}
 use Rattle.following.specs.declared.answers.Ending.{Ending}
 use Rattle.following.specs.declared.answers.Ending.TheVariants as ending
 use Rattle.running.specs.declared.runner.Runner.{Runner}
@@ -33,35 +33,35 @@ missed None e = refl
 missed (Some m) e = let z : ◌≡◌ {A = ℕ} 0 1 = cc in absurd (omega arith)
 
 module _ (room : Room) (held : ℕ → Option (List ℕ)) (k : ℕ) where
-  pub at-stopped : (b n : ℕ) (cause : Cause) → mended room held k b (stopped n cause) ≡ ends (stopped n cause) ending.Red
+  pub at_stopped : (b n : ℕ) (cause : Cause) → mended room held k b (stopped n cause) ≡ ends (stopped n cause) ending.Red
   unfolding mended
-  at-stopped zero n cause = refl
-  at-stopped (suc b) n cause = refl
+  at_stopped zero n cause = refl
+  at_stopped (suc b) n cause = refl
 
-  pub at-bookless : (b : ℕ) (hs : List Held) → mended room held k b (bookless hs) ≡ ends (bookless hs) ending.NotHeld
+  pub at_bookless : (b : ℕ) (hs : List Held) → mended room held k b (bookless hs) ≡ ends (bookless hs) ending.NotHeld
   unfolding mended
-  at-bookless zero hs = refl
-  at-bookless (suc b) hs = refl
+  at_bookless zero hs = refl
+  at_bookless (suc b) hs = refl
 
   module _ (w : Wanting) (hs : List Held) where
-    pub at-green : (b : ℕ) → k < w.wanted → mended room held k b (wanting w hs) ≡ ends (wanting w hs) ending.Green
+    pub at_green : (b : ℕ) → k < w.wanted → mended room held k b (wanting w hs) ≡ ends (wanting w hs) ending.Green
     unfolding mended
-    at-green zero l = simp (lt-leb w.wanted k l)
-    at-green (suc b) l = simp (lt-leb w.wanted k l)
+    at_green zero l = simp (lt-leb w.wanted k l)
+    at_green (suc b) l = simp (lt-leb w.wanted k l)
 
-    pub at-budget : (b : ℕ) → b ≡ 0 → w.wanted ≤ k → mended room held k b (wanting w hs) ≡ ends (wanting w hs) ending.Budget
+    pub at_budget : (b : ℕ) → b ≡ 0 → w.wanted ≤ k → mended room held k b (wanting w hs) ≡ ends (wanting w hs) ending.Budget
     unfolding mended
-    at-budget zero e l = simp (le-leb w.wanted k l)
-    at-budget (suc b) e l = absurd (omega arith)
+    at_budget zero e l = simp (le-leb w.wanted k l)
+    at_budget (suc b) e l = absurd (omega arith)
 
-    pub at-missing : (b : ℕ) → 0 < b → w.wanted ≤ k → held w.wanted ≡ None → mended room held k b (wanting w hs) ≡ ends (wanting w hs) ending.NotHeld
+    pub at_missing : (b : ℕ) → 0 < b → w.wanted ≤ k → held w.wanted ≡ None → mended room held k b (wanting w hs) ≡ ends (wanting w hs) ending.NotHeld
     unfolding mended
-    at-missing zero p l e = absurd (omega arith)
-    at-missing (suc b) p l e = simp (le-leb w.wanted k l, e)
+    at_missing zero p l e = absurd (omega arith)
+    at_missing (suc b) p l e = simp (le-leb w.wanted k l, e)
 
     pub at_more :
         (b : ℕ) (m : List ℕ) → 0 < b → w.wanted ≤ k → held w.wanted ≡ Some m →
-        mended room held k b (wanting w hs) ≡ fetched_one (mended room held k (b - 1) (run-wanted room w m hs))
+        mended room held k b (wanting w hs) ≡ fetched_one (mended room held k (b - 1) (run_wanted room w m hs))
     unfolding mended
     at_more zero m p l e = absurd (omega arith)
     at_more (suc b) m p l e = let q : suc b - 1 ≡ b = omega arith in rw q (simp (le-leb w.wanted k l, e))
@@ -83,7 +83,7 @@ module _ (room : Room) (held : ℕ → Option (List ℕ)) (k : ℕ) where
     -- one more message is fetched and runs
     pub further :
         (w : ℕ) (m : List ℕ) (after : Place) → at ≡ reached.Wanting w → left ≤ budget → 0 < left → w ≤ k → held w ≡ Some m →
-        after ≡ run-wanted room (record { book = book_in self; wanted = w }) m (held_in self) →
+        after ≡ run_wanted room (record { book = book_in self; wanted = w }) m (held_in self) →
         whole ≡ added_to (budget - (left - 1)) (mended room held k (left - 1) after)
     further w m after e l p b h r =
         let next : Mended = mended room held k (left - 1) after in

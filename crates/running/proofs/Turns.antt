@@ -6,7 +6,7 @@ use Rattle.codes.specs.declared.cause.Cause.{Cause}
 use Rattle.wire.specs.Numbers.{most32}
 use Rattle.book.specs.Plain.{Plain, ran}
 use Rattle.following.specs.States.{Room, Held}
-use Rattle.following.specs.Follower.{Place, wanting, stopped, going_on, run-held, run-wanted}
+use Rattle.following.specs.Follower.{Place, wanting, stopped, going_on, run_held, run_wanted}
 use Rattle.table.specs.Tables.{room}
 use Rattle.book.specs.Books.{slots}
 use Rattle.running.specs.declared.rows.HeldRow.{HeldRow}
@@ -31,39 +31,39 @@ numbered_drop (suc n) (r ∷ rows) e = numbered_drop n rows (and_parts (leb r.nu
 
 module _ (room : Room) (book : Plain) (w : ℕ) (rows : List HeldRow) (i : ℕ) (d : HeldRow) where
   -- another number than the wanted one ends the run
-  pub row-waits :
+  pub row_waits :
       i < length rows → ((get_or rows i d).number ≡ w → ⊥) →
-      run-held room book w (map held_message (drop i rows)) ≡ wanting (record { book = book; wanted = w }) (map held_message (drop i rows))
-  unfolding run-held
-  row-waits l n =
-      at_drop_more (λ rs. run-held room book w (map held_message rs)) rows i d l
+      run_held room book w (map held_message (drop i rows)) ≡ wanting (record { book = book; wanted = w }) (map held_message (drop i rows))
+  unfolding run_held
+  row_waits l n =
+      at_drop_more (λ rs. run_held room book w (map held_message rs)) rows i d l
       ∙ cond-false _ _ _ (ne_eqb (get_or rows i d).number w n)
       ∙ sym (at_drop_more (λ rs. wanting (record { book = book; wanted = w }) (map held_message rs)) rows i d l)
 
   -- the wanted one runs
-  pub row-runs :
+  pub row_runs :
       (r : Result Plain Cause) → i < length rows → (get_or rows i d).number ≡ w → r ≡ ran room.for_book book (message_in (get_or rows i d)) →
-      run-held room book w (map held_message (drop i rows)) ≡ going_on w r (λ b. run-held room b (w + 1) (map held_message (drop (i + 1) rows)))
-  unfolding run-held
-  row-runs r l e q =
-      at_drop_more (λ rs. run-held room book w (map held_message rs)) rows i d l
+      run_held room book w (map held_message (drop i rows)) ≡ going_on w r (λ b. run_held room b (w + 1) (map held_message (drop (i + 1) rows)))
+  unfolding run_held
+  row_runs r l e q =
+      at_drop_more (λ rs. run_held room book w (map held_message rs)) rows i d l
       ∙ cond-true _ _ _ (eq-eqb (get_or rows i d).number w e)
-      ∙ ap (λ o. going_on w o (λ b. run-held room b (suc w) (map held_message (drop (i + 1) rows)))) (sym q)
-      ∙ ap (λ n. going_on w r (λ b. run-held room b n (map held_message (drop (i + 1) rows)))) (sym (add-one w))
+      ∙ ap (λ o. going_on w o (λ b. run_held room b (suc w) (map held_message (drop (i + 1) rows)))) (sym q)
+      ∙ ap (λ n. going_on w r (λ b. run_held room b n (map held_message (drop (i + 1) rows)))) (sym (add-one w))
 
   pub rows_end :
-      length rows ≤ i → run-held room book w (map held_message (drop i rows)) ≡ wanting (record { book = book; wanted = w }) []
-  unfolding run-held
-  rows_end l = at_drop_all (λ rs. run-held room book w (map held_message rs)) rows i l
+      length rows ≤ i → run_held room book w (map held_message (drop i rows)) ≡ wanting (record { book = book; wanted = w }) []
+  unfolding run_held
+  rows_end l = at_drop_all (λ rs. run_held room book w (map held_message rs)) rows i l
 
 -- the wanted message of a packet or a source runs
 pub wanted_runs :
     (room : Room) (book : Plain) (w : ℕ) (x : List ℕ) (held : List Held) (r : Result Plain Cause) → r ≡ ran room.for_book book x →
-    going_on w r (λ b. run-held room b (w + 1) held) ≡ run-wanted room (record { book = book; wanted = w }) x held
-unfolding run-wanted
+    going_on w r (λ b. run_held room b (w + 1) held) ≡ run_wanted room (record { book = book; wanted = w }) x held
+unfolding run_wanted
 wanted_runs room book w x held r q =
-    ap (λ o. going_on w o (λ b. run-held room b (w + 1) held)) q
-    ∙ ap (λ n. going_on w (ran room.for_book book x) (λ b. run-held room b n held)) (add-one w)
+    ap (λ o. going_on w o (λ b. run_held room b (w + 1) held)) q
+    ∙ ap (λ n. going_on w (ran room.for_book book x) (λ b. run_held room b n held)) (add-one w)
 
 -- the same slots, and held messages in order
 pub stays : (before after : Runner) → slots after.book.now ≡ slots before.book.now → room after.held ≡ room before.held → Ready after → Stays before after

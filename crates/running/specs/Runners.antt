@@ -55,10 +55,10 @@ abbrev pub RowsRun : Slots → Plain → ℕ → List HeldRow → Plain → Resu
 RowsRun slots book wanted rows after (Ok ran) =
     (ran ≤ length rows) × (wanted + ran ≤ suc most32)
     × ((room : Room) → room.for_book ≡ slots →
-    spec.run-held room book wanted (map held_message rows) ≡ wanting (record { book = after; wanted = wanted + ran }) (map held_message (drop ran rows)))
+    spec.run_held room book wanted (map held_message rows) ≡ wanting (record { book = after; wanted = wanted + ran }) (map held_message (drop ran rows)))
 RowsRun slots book wanted rows after (Err stop) =
     (stop.number ≤ most32)
-    × ((room : Room) → room.for_book ≡ slots → spec.run-held room book wanted (map held_message rows) ≡ stopped stop.number stop.cause)
+    × ((room : Room) → room.for_book ≡ slots → spec.run_held room book wanted (map held_message rows) ≡ stopped stop.number stop.cause)
 
 -- what became of a message
 abbrev pub fate_of : Treated → Fate

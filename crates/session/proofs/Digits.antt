@@ -104,8 +104,8 @@ module _ (n left at : ℕ) (field : List ℕ) (small : n ≤ most32) (w : Writin
       ∙ sym (append_assoc (decimal (left / 10)) ((48 + left % 10) ∷ []) (drop (at + 1) field))
       ∙ sym (ap (λ r. r ++ drop (at + 1) field) (decimal_step left big (omega arith))) ∙ w.joined
 
-  pub writing-on : 10 ≤ left → Writing n (left / 10) (at - 1) (set field at (48 + left % 10))
-  writing-on big =
+  pub writing_on : 10 ≤ left → Writing n (left / 10) (at - 1) (set field at (48 + left % 10))
+  writing_on big =
       let d = 48 + left % 10 in
       let one = room big in
       let e : at ≡ at - 1 + 1 = omega arith in

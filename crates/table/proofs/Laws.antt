@@ -9,50 +9,50 @@ use Rattle.table.specs.Rows.{Lawful, Stored, pick, found, placed, without, below
 use Rattle.table.specs.Tables.{entries, room, taken}
 use Rattle.table.specs.declared.NotAdded.TheVariants.{Full, Present}
 use Rattle.table.specs.declared.Table.{Table}
-use Rattle.table.proofs.Seats.{above_at, below_length, is_less, is_none, without-here, without-none}
+use Rattle.table.proofs.Seats.{above_at, below_length, is_less, is_none, without_here, without_none}
 
 module _ {X K : Type 0} (key : X → K) (order : K → K → Ordering) where
   -- a row comes after q, and so do the rest
-  above-cons : (q : K) (x : X) (xs : List X) → order q (key x) ≡ Less → above key order q xs ≡ true → above key order q (x ∷ xs) ≡ true
-  above-cons q x xs p h = and_from (is_lt (order q (key x))) (above key order q xs) (ap is_lt p) h
+  above_cons : (q : K) (x : X) (xs : List X) → order q (key x) ≡ Less → above key order q xs ≡ true → above key order q (x ∷ xs) ≡ true
+  above_cons q x xs p h = and_from (is_lt (order q (key x))) (above key order q xs) (ap is_lt p) h
 
-  above-parts : (q : K) (x : X) (xs : List X) → above key order q (x ∷ xs) ≡ true → (order q (key x) ≡ Less) × (above key order q xs ≡ true)
-  above-parts q x xs h = let both = and_parts (is_lt (order q (key x))) (above key order q xs) h in (is_less (order q (key x)) both.0, both.1)
+  above_parts : (q : K) (x : X) (xs : List X) → above key order q (x ∷ xs) ≡ true → (order q (key x) ≡ Less) × (above key order q xs ≡ true)
+  above_parts q x xs h = let both = and_parts (is_lt (order q (key x))) (above key order q xs) h in (is_less (order q (key x)) both.0, both.1)
 
-  ordered-cons : (x : X) (xs : List X) → above key order (key x) xs ≡ true → ordered key order xs ≡ true → ordered key order (x ∷ xs) ≡ true
-  ordered-cons x xs h o = and_from (above key order (key x) xs) (ordered key order xs) h o
+  ordered_cons : (x : X) (xs : List X) → above key order (key x) xs ≡ true → ordered key order xs ≡ true → ordered key order (x ∷ xs) ≡ true
+  ordered_cons x xs h o = and_from (above key order (key x) xs) (ordered key order xs) h o
 
-  ordered-parts : (x : X) (xs : List X) → ordered key order (x ∷ xs) ≡ true → (above key order (key x) xs ≡ true) × (ordered key order xs ≡ true)
-  ordered-parts x xs o = and_parts (above key order (key x) xs) (ordered key order xs) o
+  ordered_parts : (x : X) (xs : List X) → ordered key order (x ∷ xs) ≡ true → (above key order (key x) xs ≡ true) × (ordered key order xs ≡ true)
+  ordered_parts x xs o = and_parts (above key order (key x) xs) (ordered key order xs) o
 
-  above-drop : (q : K) (n : ℕ) (xs : List X) → above key order q xs ≡ true → above key order q (drop n xs) ≡ true
-  above-drop q zero xs h = h
-  above-drop q (suc n) [] h = h
-  above-drop q (suc n) (x ∷ xs) h = above-drop q n xs (above-parts q x xs h).1
+  above_drop : (q : K) (n : ℕ) (xs : List X) → above key order q xs ≡ true → above key order q (drop n xs) ≡ true
+  above_drop q zero xs h = h
+  above_drop q (suc n) [] h = h
+  above_drop q (suc n) (x ∷ xs) h = above_drop q n xs (above_parts q x xs h).1
 
-  above-cut : (q : K) (i j : ℕ) (xs : List X) → i ≤ j → above key order q xs ≡ true → above key order q (take i xs ++ drop j xs) ≡ true
-  above-cut q zero j xs l h = above-drop q j xs h
-  above-cut q (suc i) zero xs l h = absurd (omega arith)
-  above-cut q (suc i) (suc j) [] l h = h
-  above-cut q (suc i) (suc j) (x ∷ xs) l h = let p = above-parts q x xs h in above-cons q x (take i xs ++ drop j xs) p.0 (above-cut q i j xs (omega arith) p.1)
+  above_cut : (q : K) (i j : ℕ) (xs : List X) → i ≤ j → above key order q xs ≡ true → above key order q (take i xs ++ drop j xs) ≡ true
+  above_cut q zero j xs l h = above_drop q j xs h
+  above_cut q (suc i) zero xs l h = absurd (omega arith)
+  above_cut q (suc i) (suc j) [] l h = h
+  above_cut q (suc i) (suc j) (x ∷ xs) l h = let p = above_parts q x xs h in above_cons q x (take i xs ++ drop j xs) p.0 (above_cut q i j xs (omega arith) p.1)
 
   pub ordered_drop : (n : ℕ) (xs : List X) → ordered key order xs ≡ true → ordered key order (drop n xs) ≡ true
   ordered_drop zero xs o = o
   ordered_drop (suc n) [] o = o
-  ordered_drop (suc n) (x ∷ xs) o = ordered_drop n xs (ordered-parts x xs o).1
+  ordered_drop (suc n) (x ∷ xs) o = ordered_drop n xs (ordered_parts x xs o).1
 
-  pub ordered-cut : (i j : ℕ) (xs : List X) → i ≤ j → ordered key order xs ≡ true → ordered key order (take i xs ++ drop j xs) ≡ true
-  ordered-cut zero j xs l o = ordered_drop j xs o
-  ordered-cut (suc i) zero xs l o = absurd (omega arith)
-  ordered-cut (suc i) (suc j) [] l o = o
-  ordered-cut (suc i) (suc j) (x ∷ xs) l o = let p = ordered-parts x xs o in ordered-cons x (take i xs ++ drop j xs) (above-cut (key x) i j xs (omega arith) p.0) (ordered-cut i j xs (omega arith) p.1)
+  pub ordered_cut : (i j : ℕ) (xs : List X) → i ≤ j → ordered key order xs ≡ true → ordered key order (take i xs ++ drop j xs) ≡ true
+  ordered_cut zero j xs l o = ordered_drop j xs o
+  ordered_cut (suc i) zero xs l o = absurd (omega arith)
+  ordered_cut (suc i) (suc j) [] l o = o
+  ordered_cut (suc i) (suc j) (x ∷ xs) l o = let p = ordered_parts x xs o in ordered_cons x (take i xs ++ drop j xs) (above_cut (key x) i j xs (omega arith) p.0) (ordered_cut i j xs (omega arith) p.1)
 
   pub ordered_without : (k : K) (xs : List X) → ordered key order xs ≡ true → ordered key order (without key order k xs) ≡ true
   ordered_without k xs o = go (is_some (found key order k xs)) refl
     where
       go : (b : Bool) → is_some (found key order k xs) ≡ b → ordered key order (without key order k xs) ≡ true
-      go true p = rw (without-here key order k xs p) (ordered-cut (below key order k xs) (suc (below key order k xs)) xs (omega arith) o)
-      go false p = rw (without-none key order k xs (is_none (found key order k xs) p)) o
+      go true p = rw (without_here key order k xs p) (ordered_cut (below key order k xs) (suc (below key order k xs)) xs (omega arith) o)
+      go false p = rw (without_none key order k xs (is_none (found key order k xs) p)) o
 
   pub length_placed : (e : X) (xs : List X) → length (placed key order e xs) ≡ length xs + cond (is_some (found key order (key e) xs)) 0 1
   unfolding found placed
@@ -78,8 +78,8 @@ module _ {X K : Type 0} (key : X → K) (order : K → K → Ordering) where
   length_onward k xs = let b = below_length key order k xs in omega (arith, length-drop (below key order k xs) xs)
 
   -- what is taken is new, and there is a slot for it
-  pub taken-ok : (n : ℕ) (e : X) (xs : List X) (u : Unit {0}) → Ok u ≡ taken key order n e xs → (found key order (key e) xs ≡ None) × (length xs < n)
-  taken-ok n e xs u h = go (is_some (found key order (key e) xs)) (ltb (length xs) n) refl refl
+  pub taken_ok : (n : ℕ) (e : X) (xs : List X) (u : Unit {0}) → Ok u ≡ taken key order n e xs → (found key order (key e) xs ≡ None) × (length xs < n)
+  taken_ok n e xs u h = go (is_some (found key order (key e) xs)) (ltb (length xs) n) refl refl
     where
       go : (a b : Bool) → is_some (found key order (key e) xs) ≡ a → ltb (length xs) n ≡ b → (found key order (key e) xs ≡ None) × (length xs < n)
       go true b p q = let s : Ok u ≡ Err Present = rw p at h in let z : ◌≡◌ {A = ℕ} 0 1 = cc in absurd (omega arith)
@@ -130,8 +130,8 @@ module _ {X K : Type 0} (key : X → K) (order : K → K → Ordering) where
         go Greater Equal h k = let f : Greater ≡ Equal = sym h ∙ laws.equal a b c p k in let z : ◌≡◌ {A = ℕ} 0 1 = cc in absurd (omega arith)
 
     -- and so on the other side
-    alike-back : (a b c : K) → order a b ≡ Equal → order c a ≡ order c b
-    alike-back a b c p = laws.turn a c ∙ (ap ordering_reverse (alike a b c p) ∙ sym (laws.turn b c))
+    alike_back : (a b c : K) → order a b ≡ Equal → order c a ≡ order c b
+    alike_back a b c p = laws.turn a c ∙ (ap ordering_reverse (alike a b c p) ∙ sym (laws.turn b c))
 
     pub same : (a : K) → order a a ≡ Equal
     same a = go (order a a) refl
@@ -141,66 +141,66 @@ module _ {X K : Type 0} (key : X → K) (order : K → K → Ordering) where
         go Equal p = refl
         go Greater p = let h : Greater ≡ Less = sym p ∙ back a a Greater p in let z : ◌≡◌ {A = ℕ} 0 1 = cc in absurd (omega arith)
 
-    above-less : (a b : K) (xs : List X) → order a b ≡ Less → above key order b xs ≡ true → above key order a xs ≡ true
-    above-less a b [] p h = refl
-    above-less a b (x ∷ xs) p h = let t = above-parts b x xs h in above-cons a x xs (laws.less a b (key x) p t.0) (above-less a b xs p t.1)
+    above_less : (a b : K) (xs : List X) → order a b ≡ Less → above key order b xs ≡ true → above key order a xs ≡ true
+    above_less a b [] p h = refl
+    above_less a b (x ∷ xs) p h = let t = above_parts b x xs h in above_cons a x xs (laws.less a b (key x) p t.0) (above_less a b xs p t.1)
 
     above_equal : (a b : K) (xs : List X) → order a b ≡ Equal → above key order b xs ≡ true → above key order a xs ≡ true
     above_equal a b [] p h = refl
-    above_equal a b (x ∷ xs) p h = let t = above-parts b x xs h in above-cons a x xs (alike a b (key x) p ∙ t.0) (above_equal a b xs p t.1)
+    above_equal a b (x ∷ xs) p h = let t = above_parts b x xs h in above_cons a x xs (alike a b (key x) p ∙ t.0) (above_equal a b xs p t.1)
 
-    above-placed : (q : K) (e : X) (xs : List X) → order q (key e) ≡ Less → above key order q xs ≡ true → above key order q (placed key order e xs) ≡ true
+    above_placed : (q : K) (e : X) (xs : List X) → order q (key e) ≡ Less → above key order q xs ≡ true → above key order q (placed key order e xs) ≡ true
     unfolding placed
-    above-placed q e [] p h = above-cons q e [] p h
-    above-placed q e (x ∷ xs) p h = go (above-placed q e xs p t.1) (order (key x) (key e))
+    above_placed q e [] p h = above_cons q e [] p h
+    above_placed q e (x ∷ xs) p h = go (above_placed q e xs p t.1) (order (key x) (key e))
       where
         t : (order q (key x) ≡ Less) × (above key order q xs ≡ true)
-        t = above-parts q x xs h
+        t = above_parts q x xs h
 
         go : above key order q (placed key order e xs) ≡ true → (r : Ordering) → above key order q (pick r (x ∷ placed key order e xs) (e ∷ xs) (e ∷ x ∷ xs)) ≡ true
-        go ih Less = above-cons q x (placed key order e xs) t.0 ih
-        go ih Equal = above-cons q e xs p t.1
-        go ih Greater = above-cons q e (x ∷ xs) p h
+        go ih Less = above_cons q x (placed key order e xs) t.0 ih
+        go ih Equal = above_cons q e xs p t.1
+        go ih Greater = above_cons q e (x ∷ xs) p h
 
     pub ordered_placed : (e : X) (xs : List X) → ordered key order xs ≡ true → ordered key order (placed key order e xs) ≡ true
     unfolding placed
-    ordered_placed e [] o = ordered-cons e [] refl o
+    ordered_placed e [] o = ordered_cons e [] refl o
     ordered_placed e (x ∷ xs) o = go (ordered_placed e xs t.1) (order (key x) (key e)) refl
       where
         t : (above key order (key x) xs ≡ true) × (ordered key order xs ≡ true)
-        t = ordered-parts x xs o
+        t = ordered_parts x xs o
 
         go : ordered key order (placed key order e xs) ≡ true → (r : Ordering) → order (key x) (key e) ≡ r → ordered key order (pick r (x ∷ placed key order e xs) (e ∷ xs) (e ∷ x ∷ xs)) ≡ true
-        go ih Less p = ordered-cons x (placed key order e xs) (above-placed (key x) e xs p t.0) ih
-        go ih Equal p = ordered-cons e xs (above_equal (key e) (key x) xs (back (key x) (key e) Equal p) t.0) t.1
-        go ih Greater p = let s : order (key e) (key x) ≡ Less = back (key x) (key e) Greater p in ordered-cons e (x ∷ xs) (above-cons (key e) x xs s (above-less (key e) (key x) xs s t.0)) o
+        go ih Less p = ordered_cons x (placed key order e xs) (above_placed (key x) e xs p t.0) ih
+        go ih Equal p = ordered_cons e xs (above_equal (key e) (key x) xs (back (key x) (key e) Equal p) t.0) t.1
+        go ih Greater p = let s : order (key e) (key x) ≡ Less = back (key x) (key e) Greater p in ordered_cons e (x ∷ xs) (above_cons (key e) x xs s (above_less (key e) (key x) xs s t.0)) o
 
     -- among rows after k none is found whose key is not after k
-    above-none : (k q : K) (xs : List X) → above key order k xs ≡ true → (order k q ≡ Less → ⊥) → found key order q xs ≡ None
+    above_none : (k q : K) (xs : List X) → above key order k xs ≡ true → (order k q ≡ Less → ⊥) → found key order q xs ≡ None
     unfolding found
-    above-none k q [] h n = refl
-    above-none k q (x ∷ xs) h n = go (order (key x) q) refl
+    above_none k q [] h n = refl
+    above_none k q (x ∷ xs) h n = go (order (key x) q) refl
       where
         s : order k (key x) ≡ Less
-        s = (above-parts k x xs h).0
+        s = (above_parts k x xs h).0
 
         go : (r : Ordering) → order (key x) q ≡ r → pick r (found key order q xs) (Some x) None ≡ None
         go Less p = absurd (n (laws.less k (key x) q s p))
-        go Equal p = absurd (n (sym (alike-back (key x) q k p) ∙ s))
+        go Equal p = absurd (n (sym (alike_back (key x) q k p) ∙ s))
         go Greater p = refl
 
     pub found_alike : (a b : K) (xs : List X) → order a b ≡ Equal → found key order a xs ≡ found key order b xs
     unfolding found
     found_alike a b [] h = refl
-    found_alike a b (x ∷ xs) h = rw (alike-back a b (key x) h) (ap (λ (t : Option X). pick (order (key x) b) t (Some x) None) (found_alike a b xs h))
+    found_alike a b (x ∷ xs) h = rw (alike_back a b (key x) h) (ap (λ (t : Option X). pick (order (key x) b) t (Some x) None) (found_alike a b xs h))
 
     pub stored_found : (q : K) (xs : List X) (x : X) → ordered key order xs ≡ true → Stored x xs → order (key x) q ≡ Equal → found key order q xs ≡ Some x
     unfolding found
     stored_found q [] x o (i, l, e) p = absurd (omega arith)
     stored_found q (y ∷ ys) x o (zero, l, e) p = let s : order (key y) q ≡ Equal = rw e at p in rw (s, e)
     stored_found q (y ∷ ys) x o (suc i, l, e) p =
-        let t = ordered-parts y ys o in
-        let s : order (key y) q ≡ Less = sym (alike-back (key x) q (key y) p) ∙ above_at key order (key y) ys t.0 i x (omega arith) e in
+        let t = ordered_parts y ys o in
+        let s : order (key y) q ≡ Less = sym (alike_back (key x) q (key y) p) ∙ above_at key order (key y) ys t.0 i x (omega arith) e in
         rw s (stored_found q ys x t.1 (i, omega arith, e) p)
 
     pub found_placed : (e : X) (xs : List X) (q : K) → order (key e) q ≡ Equal → found key order q (placed key order e xs) ≡ Some e
@@ -209,7 +209,7 @@ module _ {X K : Type 0} (key : X → K) (order : K → K → Ordering) where
     found_placed e (x ∷ xs) q h = go (found_placed e xs q h) (order (key x) (key e)) refl
       where
         go : found key order q (placed key order e xs) ≡ Some e → (r : Ordering) → order (key x) (key e) ≡ r → found key order q (pick r (x ∷ placed key order e xs) (e ∷ xs) (e ∷ x ∷ xs)) ≡ Some e
-        go ih Less p = let l : order (key x) q ≡ Less = sym (alike-back (key e) q (key x) h) ∙ p in rw l ih
+        go ih Less p = let l : order (key x) q ≡ Less = sym (alike_back (key e) q (key x) h) ∙ p in rw l ih
         go ih Equal p = rw h
         go ih Greater p = rw h
 
@@ -240,21 +240,21 @@ module _ {X K : Type 0} (key : X → K) (order : K → K → Ordering) where
         go ih Equal p = rw (alike (key x) (key e) q p) (at (order (key e) q) refl)
         go ih Greater p = over p (order (key e) q) refl
 
-    found-without-same : (k : K) (xs : List X) → ordered key order xs ≡ true → found key order k (without key order k xs) ≡ None
+    found_without_same : (k : K) (xs : List X) → ordered key order xs ≡ true → found key order k (without key order k xs) ≡ None
     unfolding found without
-    found-without-same k [] o = refl
-    found-without-same k (x ∷ xs) o = go (found-without-same k xs t.1) (order (key x) k) refl
+    found_without_same k [] o = refl
+    found_without_same k (x ∷ xs) o = go (found_without_same k xs t.1) (order (key x) k) refl
       where
         t : (above key order (key x) xs ≡ true) × (ordered key order xs ≡ true)
-        t = ordered-parts x xs o
+        t = ordered_parts x xs o
 
         go : found key order k (without key order k xs) ≡ None → (r : Ordering) → order (key x) k ≡ r → found key order k (pick r (x ∷ without key order k xs) xs (x ∷ xs)) ≡ None
         go ih Less p = rw p ih
-        go ih Equal p = above-none (key x) k xs t.0 (λ s. let f : Less ≡ Equal = sym s ∙ p in let z : ◌≡◌ {A = ℕ} 0 1 = cc in omega arith)
+        go ih Equal p = above_none (key x) k xs t.0 (λ s. let f : Less ≡ Equal = sym s ∙ p in let z : ◌≡◌ {A = ℕ} 0 1 = cc in omega arith)
         go ih Greater p = rw p
 
     pub found_without : (k : K) (xs : List X) (q : K) → ordered key order xs ≡ true → order k q ≡ Equal → found key order q (without key order k xs) ≡ None
-    found_without k xs q o p = sym (found_alike k q (without key order k xs) p) ∙ found-without-same k xs o
+    found_without k xs q o p = sym (found_alike k q (without key order k xs) p) ∙ found_without_same k xs o
 
     pub found_without_other : (k : K) (xs : List X) (q : K) → ordered key order xs ≡ true → (order k q ≡ Equal → ⊥) → found key order q (without key order k xs) ≡ found key order q xs
     unfolding found without
@@ -262,12 +262,12 @@ module _ {X K : Type 0} (key : X → K) (order : K → K → Ordering) where
     found_without_other k (x ∷ xs) q o n = go (found_without_other k xs q t.1 n) (order (key x) k) refl
       where
         t : (above key order (key x) xs ≡ true) × (ordered key order xs ≡ true)
-        t = ordered-parts x xs o
+        t = ordered_parts x xs o
 
         at : (s : Ordering) → order (key x) q ≡ s → order k q ≡ s → found key order q xs ≡ pick s (found key order q xs) (Some x) None
         at Less p u = refl
         at Equal p u = absurd (n u)
-        at Greater p u = above-none (key x) q xs t.0 (λ s. let f : Less ≡ Greater = sym s ∙ p in let z : ◌≡◌ {A = ℕ} 0 1 = cc in omega arith)
+        at Greater p u = above_none (key x) q xs t.0 (λ s. let f : Less ≡ Greater = sym s ∙ p in let z : ◌≡◌ {A = ℕ} 0 1 = cc in omega arith)
 
         go : found key order q (without key order k xs) ≡ found key order q xs → (s : Ordering) → order (key x) k ≡ s → found key order q (pick s (x ∷ without key order k xs) xs (x ∷ xs)) ≡ found key order q (x ∷ xs)
         go ih Less p = ap (λ (w : Option X). pick (order (key x) q) w (Some x) None) ih
@@ -281,12 +281,12 @@ module _ {X K : Type 0} (key : X → K) (order : K → K → Ordering) where
     found_dropped (suc n) (x ∷ xs) q o l = go (found_dropped n xs q t.1) (order (key x) q) refl
       where
         t : (above key order (key x) xs ≡ true) × (ordered key order xs ≡ true)
-        t = ordered-parts x xs o
+        t = ordered_parts x xs o
 
         go : (below key order q xs < n → found key order q (drop n xs) ≡ None) → (r : Ordering) → order (key x) q ≡ r → found key order q (drop n xs) ≡ None
         go ih Less p = let s : suc (below key order q xs) < suc n = rw p at l in ih (omega arith)
-        go ih Equal p = above-none (key x) q (drop n xs) (above-drop (key x) n xs t.0) (λ s. let f : Less ≡ Equal = sym s ∙ p in let z : ◌≡◌ {A = ℕ} 0 1 = cc in omega arith)
-        go ih Greater p = above-none (key x) q (drop n xs) (above-drop (key x) n xs t.0) (λ s. let f : Less ≡ Greater = sym s ∙ p in let z : ◌≡◌ {A = ℕ} 0 1 = cc in omega arith)
+        go ih Equal p = above_none (key x) q (drop n xs) (above_drop (key x) n xs t.0) (λ s. let f : Less ≡ Equal = sym s ∙ p in let z : ◌≡◌ {A = ℕ} 0 1 = cc in omega arith)
+        go ih Greater p = above_none (key x) q (drop n xs) (above_drop (key x) n xs t.0) (λ s. let f : Less ≡ Greater = sym s ∙ p in let z : ◌≡◌ {A = ℕ} 0 1 = cc in omega arith)
 
     pub found_below : (k : K) (xs : List X) (q : K) → order q k ≡ Less → found key order q (onward key order k xs) ≡ None
     unfolding found below
@@ -333,9 +333,9 @@ module _ {X K : Type 0} (key : X → K) (order : K → K → Ordering) where
     unfolding found
     found_first x xs = rw (same (key x))
 
-    first-same : (x y : X) (xs ys : List X) → ((q : K) → found key order q (x ∷ xs) ≡ found key order q (y ∷ ys)) → x ≡ y
+    first_same : (x y : X) (xs ys : List X) → ((q : K) → found key order q (x ∷ xs) ≡ found key order q (y ∷ ys)) → x ≡ y
     unfolding found
-    first-same x y xs ys f = go (order (key y) (key x)) refl
+    first_same x y xs ys f = go (order (key y) (key x)) refl
       where
         at : Some x ≡ found key order (key x) (y ∷ ys)
         at = sym (found_first x xs) ∙ f (key x)
@@ -349,12 +349,12 @@ module _ {X K : Type 0} (key : X → K) (order : K → K → Ordering) where
         go Equal p = let e : Some x ≡ Some y = rw p at at in cc
         go Greater p = let e : Some x ≡ None = rw p at at in let z : ◌≡◌ {A = ℕ} 0 1 = cc in absurd (omega arith)
 
-    rest-same : (x : X) (xs ys : List X) → above key order (key x) xs ≡ true → above key order (key x) ys ≡ true → ((q : K) → found key order q (x ∷ xs) ≡ found key order q (x ∷ ys)) → (q : K) → found key order q xs ≡ found key order q ys
+    rest_same : (x : X) (xs ys : List X) → above key order (key x) xs ≡ true → above key order (key x) ys ≡ true → ((q : K) → found key order q (x ∷ xs) ≡ found key order q (x ∷ ys)) → (q : K) → found key order q xs ≡ found key order q ys
     unfolding found
-    rest-same x xs ys h k f q = go (order (key x) q) refl
+    rest_same x xs ys h k f q = go (order (key x) q) refl
       where
         none : (order (key x) q ≡ Less → ⊥) → found key order q xs ≡ found key order q ys
-        none n = above-none (key x) q xs h n ∙ sym (above-none (key x) q ys k n)
+        none n = above_none (key x) q xs h n ∙ sym (above_none (key x) q ys k n)
 
         go : (r : Ordering) → order (key x) q ≡ r → found key order q xs ≡ found key order q ys
         go Less p = rw p at (f q)
@@ -367,12 +367,12 @@ module _ {X K : Type 0} (key : X → K) (order : K → K → Ordering) where
     same_found [] (y ∷ ys) o u f = let e : None ≡ Some y = f (key y) ∙ found_first y ys in let z : ◌≡◌ {A = ℕ} 0 1 = cc in absurd (omega arith)
     same_found (x ∷ xs) [] o u f = let e : Some x ≡ None = sym (found_first x xs) ∙ f (key x) in let z : ◌≡◌ {A = ℕ} 0 1 = cc in absurd (omega arith)
     same_found (x ∷ xs) (y ∷ ys) o u f =
-        let e : x ≡ y = first-same x y xs ys f in
-        let t = ordered-parts x xs o in
-        let w = ordered-parts y ys u in
+        let e : x ≡ y = first_same x y xs ys f in
+        let t = ordered_parts x xs o in
+        let w = ordered_parts y ys u in
         let g : (q : K) → found key order q (x ∷ xs) ≡ found key order q (x ∷ ys) = λ q. f q ∙ ap (λ v. found key order q (v ∷ ys)) (sym e) in
         let a : above key order (key x) ys ≡ true = ap (λ v. above key order (key v) ys) e ∙ w.0 in
-        ap (λ (s : List X). x ∷ s) (same_found xs ys t.1 w.1 (rest-same x xs ys t.0 a g)) ∙ ap (λ v. v ∷ ys) e
+        ap (λ (s : List X). x ∷ s) (same_found xs ys t.1 w.1 (rest_same x xs ys t.0 a g)) ∙ ap (λ v. v ∷ ys) e
 
 -- there are no more entries than slots
 pub entries_fit : {X B : Type 0} (t : Table X B) → length (entries t) ≤ room t

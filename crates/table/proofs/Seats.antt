@@ -31,30 +31,30 @@ module _ {X K : Type 0} (key : X → K) (order : K → K → Ordering) where
       go ih false = omega arith
 
   -- a row that is not less than q stands past those that are
-  pub below-most : (q : K) (xs : List X) (i : ℕ) (x : X) → i < length xs → x ≡ get_or xs i x → (order (key x) q ≡ Less → ⊥) → below key order q xs ≤ i
+  pub below_most : (q : K) (xs : List X) (i : ℕ) (x : X) → i < length xs → x ≡ get_or xs i x → (order (key x) q ≡ Less → ⊥) → below key order q xs ≤ i
   unfolding below
-  below-most q [] i x l e n = absurd (omega arith)
-  below-most q (y ∷ ys) zero x l e n = go (order (key y) q) refl
+  below_most q [] i x l e n = absurd (omega arith)
+  below_most q (y ∷ ys) zero x l e n = go (order (key y) q) refl
     where
       go : (o : Ordering) → order (key y) q ≡ o → cond (is_lt o) (suc (below key order q ys)) 0 ≤ zero
       go Less p = absurd (n (ap (λ w. order (key w) q) e ∙ p))
       go Equal p = omega arith
       go Greater p = omega arith
-  below-most q (y ∷ ys) (suc i) x l e n = go (below-most q ys i x (omega arith) e n) (is_lt (order (key y) q))
+  below_most q (y ∷ ys) (suc i) x l e n = go (below_most q ys i x (omega arith) e n) (is_lt (order (key y) q))
     where
       go : below key order q ys ≤ i → (b : Bool) → cond b (suc (below key order q ys)) 0 ≤ suc i
       go ih true = omega arith
       go ih false = omega arith
 
   -- in order, a row that is less than q stands among those counted
-  pub below-least : Lawful order → (q : K) (xs : List X) → ordered key order xs ≡ true → (i : ℕ) (x : X) → i < length xs → x ≡ get_or xs i x → order (key x) q ≡ Less → i < below key order q xs
+  pub below_least : Lawful order → (q : K) (xs : List X) → ordered key order xs ≡ true → (i : ℕ) (x : X) → i < length xs → x ≡ get_or xs i x → order (key x) q ≡ Less → i < below key order q xs
   unfolding below
-  below-least laws q [] o i x l e p = absurd (omega arith)
-  below-least laws q (y ∷ ys) o zero x l e p = let s : order (key y) q ≡ Less = rw e at p in rw s (omega arith)
-  below-least laws q (y ∷ ys) o (suc i) x l e p =
+  below_least laws q [] o i x l e p = absurd (omega arith)
+  below_least laws q (y ∷ ys) o zero x l e p = let s : order (key y) q ≡ Less = rw e at p in rw s (omega arith)
+  below_least laws q (y ∷ ys) o (suc i) x l e p =
       let both = and_parts (above key order (key y) ys) (ordered key order ys) o in
       let s : order (key y) q ≡ Less = laws.less (key y) (key x) q (above_at (key y) ys both.0 i x (omega arith) e) p in
-      let ih = below-least laws q ys both.1 i x (omega arith) e p in
+      let ih = below_least laws q ys both.1 i x (omega arith) e p in
       rw s (omega arith)
 
   -- what is found, by the row that stands at the place of q
@@ -71,10 +71,10 @@ module _ {X K : Type 0} (key : X → K) (order : K → K → Ordering) where
       go ih Equal p = let f : x ≡ y = rw p at e in rw (f, p)
       go ih Greater p = let f : x ≡ y = rw p at e in rw (f, p)
 
-  pub found-past : (q : K) (xs : List X) → length xs ≤ below key order q xs → found key order q xs ≡ None
+  pub found_past : (q : K) (xs : List X) → length xs ≤ below key order q xs → found key order q xs ≡ None
   unfolding found below
-  found-past q [] l = refl
-  found-past q (x ∷ xs) l = go (found-past q xs) (order (key x) q) refl
+  found_past q [] l = refl
+  found_past q (x ∷ xs) l = go (found_past q xs) (order (key x) q) refl
     where
       go : (length xs ≤ below key order q xs → found key order q xs ≡ None) → (o : Ordering) → order (key x) q ≡ o → found key order q (x ∷ xs) ≡ None
       go ih Less p = let s : suc (length xs) ≤ suc (below key order q xs) = rw p at l in rw p (ih (omega arith))
@@ -87,7 +87,7 @@ module _ {X K : Type 0} (key : X → K) (order : K → K → Ordering) where
     where
       go : (below key order q xs < length xs) ⊎ (length xs ≤ below key order q xs) → below key order q xs < length xs
       go (inl l) = l
-      go (inr l) = let n : false ≡ true = sym (ap is_some (found-past q xs l)) ∙ h in let z : ◌≡◌ {A = ℕ} 0 1 = cc in absurd (omega arith)
+      go (inr l) = let n : false ≡ true = sym (ap is_some (found_past q xs l)) ∙ h in let z : ◌≡◌ {A = ℕ} 0 1 = cc in absurd (omega arith)
 
   pub found_here : (q : K) (xs : List X) (d : X) → is_some (found key order q xs) ≡ true → found key order q xs ≡ Some (get_or xs (below key order q xs) d)
   found_here q xs d h = go (order (key x) q) refl
@@ -106,40 +106,40 @@ module _ {X K : Type 0} (key : X → K) (order : K → K → Ordering) where
       go Equal p = rw p at f
       go Greater p = let n : None ≡ found key order q xs = sym (rw p at f) in let m : false ≡ true = ap is_some n ∙ h in let z : ◌≡◌ {A = ℕ} 0 1 = cc in absurd (omega arith)
 
-  pub without-here : (q : K) (xs : List X) → is_some (found key order q xs) ≡ true → without key order q xs ≡ remove xs (below key order q xs)
+  pub without_here : (q : K) (xs : List X) → is_some (found key order q xs) ≡ true → without key order q xs ≡ remove xs (below key order q xs)
   unfolding found without below
-  without-here q [] h = let z : ◌≡◌ {A = ℕ} 0 1 = cc in absurd (omega arith)
-  without-here q (x ∷ xs) h = go (without-here q xs) (order (key x) q) refl
+  without_here q [] h = let z : ◌≡◌ {A = ℕ} 0 1 = cc in absurd (omega arith)
+  without_here q (x ∷ xs) h = go (without_here q xs) (order (key x) q) refl
     where
       go : (is_some (found key order q xs) ≡ true → without key order q xs ≡ remove xs (below key order q xs)) → (o : Ordering) → order (key x) q ≡ o → without key order q (x ∷ xs) ≡ remove (x ∷ xs) (below key order q (x ∷ xs))
       go ih Less p = rw p (ap (λ (t : List X). x ∷ t) (ih (rw p at h)))
       go ih Equal p = rw p
       go ih Greater p = let n : false ≡ true = rw p at h in let z : ◌≡◌ {A = ℕ} 0 1 = cc in absurd (omega arith)
 
-  pub without-none : (q : K) (xs : List X) → found key order q xs ≡ None → without key order q xs ≡ xs
+  pub without_none : (q : K) (xs : List X) → found key order q xs ≡ None → without key order q xs ≡ xs
   unfolding found without
-  without-none q [] h = refl
-  without-none q (x ∷ xs) h = go (without-none q xs) (order (key x) q) refl
+  without_none q [] h = refl
+  without_none q (x ∷ xs) h = go (without_none q xs) (order (key x) q) refl
     where
       go : (found key order q xs ≡ None → without key order q xs ≡ xs) → (o : Ordering) → order (key x) q ≡ o → without key order q (x ∷ xs) ≡ x ∷ xs
       go ih Less p = rw p (ap (λ (t : List X). x ∷ t) (ih (rw p at h)))
       go ih Equal p = let n : Some x ≡ None = rw p at h in let z : ◌≡◌ {A = ℕ} 0 1 = cc in absurd (omega arith)
       go ih Greater p = rw p
 
-  pub placed-here : (e : X) (xs : List X) → is_some (found key order (key e) xs) ≡ true → placed key order e xs ≡ set xs (below key order (key e) xs) e
+  pub placed_here : (e : X) (xs : List X) → is_some (found key order (key e) xs) ≡ true → placed key order e xs ≡ set xs (below key order (key e) xs) e
   unfolding found placed below
-  placed-here e [] h = let z : ◌≡◌ {A = ℕ} 0 1 = cc in absurd (omega arith)
-  placed-here e (x ∷ xs) h = go (placed-here e xs) (order (key x) (key e)) refl
+  placed_here e [] h = let z : ◌≡◌ {A = ℕ} 0 1 = cc in absurd (omega arith)
+  placed_here e (x ∷ xs) h = go (placed_here e xs) (order (key x) (key e)) refl
     where
       go : (is_some (found key order (key e) xs) ≡ true → placed key order e xs ≡ set xs (below key order (key e) xs) e) → (o : Ordering) → order (key x) (key e) ≡ o → placed key order e (x ∷ xs) ≡ set (x ∷ xs) (below key order (key e) (x ∷ xs)) e
       go ih Less p = rw p (ap (λ (t : List X). x ∷ t) (ih (rw p at h)))
       go ih Equal p = rw p
       go ih Greater p = let n : false ≡ true = rw p at h in let z : ◌≡◌ {A = ℕ} 0 1 = cc in absurd (omega arith)
 
-  pub placed-new : (e : X) (xs : List X) → found key order (key e) xs ≡ None → placed key order e xs ≡ insert xs (below key order (key e) xs) e
+  pub placed_new : (e : X) (xs : List X) → found key order (key e) xs ≡ None → placed key order e xs ≡ insert xs (below key order (key e) xs) e
   unfolding found placed below
-  placed-new e [] h = refl
-  placed-new e (x ∷ xs) h = go (placed-new e xs) (order (key x) (key e)) refl
+  placed_new e [] h = refl
+  placed_new e (x ∷ xs) h = go (placed_new e xs) (order (key x) (key e)) refl
     where
       go : (found key order (key e) xs ≡ None → placed key order e xs ≡ insert xs (below key order (key e) xs) e) → (o : Ordering) → order (key x) (key e) ≡ o → placed key order e (x ∷ xs) ≡ insert (x ∷ xs) (below key order (key e) (x ∷ xs)) e
       go ih Less p = rw p (ap (λ (t : List X). x ∷ t) (ih (rw p at h)))

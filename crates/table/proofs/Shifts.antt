@@ -22,8 +22,8 @@ module _ {X : Type 0} (old : List X) (used : ℕ) where
       let s : used - j ≤ length (drop j old) = simp length-drop (omega arith) in
       rw e (take-paste old i (drop j old) (used - j) (omega arith) s ∙ ap (λ (t : List X). take i old ++ t) (rest j m) ∙ ap (λ (t : List X). t ++ drop j (take used old)) (sym (take-take i used old (omega arith))))
 
-  pub closed-length : (i j : ℕ) → i ≤ j → j ≤ used → used ≤ length old → length (paste old i (drop j old) (used - j)) ≡ length old
-  closed-length i j l m n = length-paste old i (drop j old) (used - j) (omega arith) (simp length-drop (omega arith))
+  pub closed_length : (i j : ℕ) → i ≤ j → j ≤ used → used ≤ length old → length (paste old i (drop j old) (used - j)) ≡ length old
+  closed_length i j l m n = length-paste old i (drop j old) (used - j) (omega arith) (simp length-drop (omega arith))
 
   -- e put in at i
   pub opened : (i : ℕ) (e : X) → i ≤ used → used < length old → take (used + 1) (set (paste old (i + 1) (drop i old) (used - i)) i e) ≡ insert (take used old) i e
@@ -40,5 +40,5 @@ module _ {X : Type 0} (old : List X) (used : ℕ) where
       ∙ ap (λ (t : List X). take i old ++ e ∷ t) (rest i l)
       ∙ ap (λ (t : List X). t ++ e ∷ drop i (take used old)) (sym (take-take i used old l))
 
-  pub opened-length : (i : ℕ) (e : X) → i ≤ used → used < length old → length (set (paste old (i + 1) (drop i old) (used - i)) i e) ≡ length old
-  opened-length i e l n = length-set (paste old (i + 1) (drop i old) (used - i)) i e ∙ length-paste old (i + 1) (drop i old) (used - i) (omega arith) (simp length-drop (omega arith))
+  pub opened_length : (i : ℕ) (e : X) → i ≤ used → used < length old → length (set (paste old (i + 1) (drop i old) (used - i)) i e) ≡ length old
+  opened_length i e l n = length-set (paste old (i + 1) (drop i old) (used - i)) i e ∙ length-paste old (i + 1) (drop i old) (used - i) (omega arith) (simp length-drop (omega arith))

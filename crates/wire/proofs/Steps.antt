@@ -56,9 +56,9 @@ module _ where
   all_from n number bytes (Some k) h e =
       ap (option_map (λ ms. take k (drop 2 bytes) ∷ ms)) (h k (sym (some_mapped (λ (ms : List (List ℕ)). take k (drop 2 bytes) ∷ ms) (unpacked n (drop (2 + k) bytes))) ∙ e))
 
-  pub all-walked : (n number : ℕ) (bytes : List ℕ) → number + n ≤ suc most32 → is_some (unpacked n bytes) ≡ true → unpacked n bytes ≡ Some (walked n number bytes)
+  pub all_walked : (n number : ℕ) (bytes : List ℕ) → number + n ≤ suc most32 → is_some (unpacked n bytes) ≡ true → unpacked n bytes ≡ Some (walked n number bytes)
   unfolding unpacked walked
-  all-walked zero number bytes h e = cond-true _ _ _ (sym (none_left zero bytes refl) ∙ e)
-  all-walked (suc n) number bytes h e =
-      all_from n number bytes (message_length bytes) (λ k. all-walked n (number + 1) (drop (2 + k) bytes) (omega arith)) e
+  all_walked zero number bytes h e = cond-true _ _ _ (sym (none_left zero bytes refl) ∙ e)
+  all_walked (suc n) number bytes h e =
+      all_from n number bytes (message_length bytes) (λ k. all_walked n (number + 1) (drop (2 + k) bytes) (omega arith)) e
       ∙ ap Some (sym (cond-false _ _ _ (le-ltb most32 number (omega arith))))

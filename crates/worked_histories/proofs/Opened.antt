@@ -15,21 +15,21 @@ use Rattle.following.specs.Calls.{answered}
 use Rattle.following.specs.Follower.{
   agrees,
   settled,
-  run-held,
-  run-wanted,
+  run_held,
+  run_wanted,
   treated,
   place_after,
   counts_of,
-  snapshot-of,
+  snapshot_of,
   mended,
-  while-started,
-  while-dark,
-  while-red,
+  while_started,
+  while_dark,
+  while_red,
   outcome,
 }
-use Rattle.following.specs.Days.{whole_run, Ours, after, since, All-belong}
+use Rattle.following.specs.Days.{whole_run, Ours, after, since, AllBelong}
 use Rattle.following.specs.Law.{missing}
 
 unfoldable pub opened : ℕ
-unfolding feed_message snapshot_message unpacked packet_of number_of framed_within session_messages opening carried found placed without below numbered_from ran ran_there states_of rows_of orders_of run_there lamp_of answered agrees settled run-held run-wanted treated place_after counts_of snapshot-of mended while-started while-dark while-red outcome whole_run Ours after since All-belong missing
+unfolding feed_message snapshot_message unpacked packet_of number_of framed_within session_messages opening carried found placed without below numbered_from ran ran_there states_of rows_of orders_of run_there lamp_of answered agrees settled run_held run_wanted treated place_after counts_of snapshot_of mended while_started while_dark while_red outcome whole_run Ours after since AllBelong missing
 opened = 0

@@ -2,7 +2,7 @@
 use Rattle.std.proofs.Common.{◌≡◌, ℕ, ◌+◌, Bool, true, false, cond, eqb, List, [], ◌∷◌, ◌++◌, Some, None, Option, sym, refl, ◌∙◌, subst, arith, eqb-true}
 use Rattle.source.specs.Meanings.{numbered_from}
 use Rattle.source.specs.Pairs.{either}
-use Rattle.following.specs.Days.{message_of, Source-belongs}
+use Rattle.following.specs.Days.{message_of, SourceBelongs}
 use Rattle.worked_histories.specs.Histories.{room, first_source, second_source, pair, trading_day, m4, m5, m6, m7, m8}
 
 -- messages are numbered as they are without more behind them
@@ -32,8 +32,8 @@ from_either :
 from_either k m None q e = from_second k m e
 from_either k m (Some x) q e = from_first k m (q ∙ e)
 
-pub first_belongs : Source-belongs room trading_day first_source
+pub first_belongs : SourceBelongs room trading_day first_source
 first_belongs = (refl, from_first)
 
-pub pair_belongs : Source-belongs room trading_day pair
+pub pair_belongs : SourceBelongs room trading_day pair
 pair_belongs = (refl, λ k m e. from_either k m (first_source.held k) refl e)

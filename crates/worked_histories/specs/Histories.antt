@@ -41,7 +41,7 @@ use Rattle.following.specs.Calls.{
   accepted,
 }
 use Rattle.following.specs.Follower.{outcome}
-use Rattle.following.specs.Days.{Day, stops, whole_run, after, since, All-belong}
+use Rattle.following.specs.Days.{Day, stops, whole_run, after, since, AllBelong}
 use Rattle.following.specs.Law.{held_of, missing}
 use Rattle.following.specs.declared.answers.Ending.TheVariants as ending
 use Rattle.worked_histories.specs.Layouts.{
@@ -85,7 +85,7 @@ Refused c history why = outcome room (after room history) c ≡ refused why
 
 -- everything accepted since the last accepted start belongs to a day
 abbrev pub BelongsTo : Day → List Call → Type 0
-BelongsTo day history = All-belong room day (since room history)
+BelongsTo day history = AllBelong room day (since room history)
 
 -- a trading day of one stock: eight messages
 abbrev pub stock : String

@@ -3,7 +3,7 @@ ghost use Rattle.std.specs.Prelude.{◌≡◌, suc, ◌≤◌, true, [], length}
 ghost use Rattle.wire.specs.Numbers.{most32};
 ghost use Rattle.book.specs.Books.{plain, slots};
 ghost use Rattle.book.specs.Plain.{empty};
-ghost use Rattle.following.specs.Follower.{run-held, run-wanted};
+ghost use Rattle.following.specs.Follower.{run_held, run_wanted};
 ghost use Rattle.running.specs.Runners.{held_in, book_in, room_of, Ready, place_in, Within, Stays, RowsRun};
 ghost use Rattle.running.specs.Rows.{all_numbered};
 
@@ -42,7 +42,7 @@ impl<'a, 'b> Runner<'a, 'b> {
     pub(super) fn run_held(&mut self, wanted: u32) -> Reached
         requires ready { Ready self.old }
         requires within { wanted ≤ suc most32 }
-        ensures place { place_in self.new result ≡ run-held (room_of self.old) (book_in self.old) wanted (held_in self.old) }
+        ensures place { place_in self.new result ≡ run_held (room_of self.old) (book_in self.old) wanted (held_in self.old) }
         ensures within { Within result }
         ensures stays { Stays self.old self.new }
     {
@@ -63,7 +63,7 @@ impl<'a, 'b> Runner<'a, 'b> {
     pub fn run_wanted(&mut self, wanted: u32, message: &[u8]) -> Reached
         requires ready { Ready self.old }
         requires within { wanted ≤ most32 }
-        ensures place { place_in self.new result ≡ run-wanted (room_of self.old) (record { book = book_in self.old; wanted = wanted }) message.now (held_in self.old) }
+        ensures place { place_in self.new result ≡ run_wanted (room_of self.old) (record { book = book_in self.old; wanted = wanted }) message.now (held_in self.old) }
         ensures within { Within result }
         ensures stays { Stays self.old self.new }
     {

@@ -8,7 +8,7 @@ ghost use Rattle.book.specs.Books.{plain, slots};
 ghost use Rattle.book.specs.Plain.{empty};
 ghost use Rattle.book.specs.Runs.{run_there};
 ghost use Rattle.following.specs.States.{held_from};
-ghost use Rattle.following.specs.Follower.{completed, run-held};
+ghost use Rattle.following.specs.Follower.{completed, run_held};
 ghost use Rattle.running.specs.Runners.{held_in, book_in, room_of, Ready, place_in, Within, Stays, snapshot_with};
 
 use super::Runner;
@@ -32,7 +32,7 @@ impl<'a, 'b> Runner<'a, 'b> {
     pub fn complete(&mut self, next: u32) -> Reached
         requires ready { Ready self.old }
         requires within { next ≤ most32 }
-        ensures place { place_in self.new result ≡ run-held (room_of self.old) (book_in self.old) next (held_from next (held_in self.old)) }
+        ensures place { place_in self.new result ≡ run_held (room_of self.old) (book_in self.old) next (held_from next (held_in self.old)) }
         ensures within { Within result }
         ensures stays { Stays self.old self.new }
     {

@@ -1,7 +1,7 @@
 use Rattle.std.proofs.Common.{ℕ, ◌+◌, length, sym, ap, ◌∙◌, arith}
 use Rattle.std.proofs.lemmas.List.{take_all}
 use Rattle.book.specs.Questions.{rows_of}
-use Rattle.book.proofs.Shown.{rows_none, rows-count, rows-skip}
+use Rattle.book.proofs.Shown.{rows_none, rows_count, rows_skip}
 use Rattle.book.proofs.book.questions.count.Goals as goal
 use Rattle.book.proofs.book.questions.count.Goals.{then-is_asked, else-is_asked}
 
@@ -13,10 +13,10 @@ loop-order-preserved c =
     let i : ℕ = c.loop-order.order-index in
     elim c.if-is_asked.branch [
       | then-is_asked w ↦
-          let one = rows-count c.args.symbol c.args.side c.args.live.now i _ c.loop-order-test.true (sym c.is_asked.ensures ∙ w.if-is_asked.true) in
+          let one = rows_count c.args.symbol c.args.side c.args.live.now i _ c.loop-order-test.true (sym c.is_asked.ensures ∙ w.if-is_asked.true) in
           (w.n-is ∙ (ap (λ n. n + 1) c.loop-order.invariant.0 ∙ sym one), omega (arith, w.n-is))
       | else-is_asked w ↦
-          let none = rows-skip c.args.symbol c.args.side c.args.live.now i _ c.loop-order-test.true (sym c.is_asked.ensures ∙ w.if-is_asked.false) in
+          let none = rows_skip c.args.symbol c.args.side c.args.live.now i _ c.loop-order-test.true (sym c.is_asked.ensures ∙ w.if-is_asked.false) in
           (w.n-is ∙ (c.loop-order.invariant.0 ∙ sym (ap length none)), omega (arith, w.n-is))
     ]
 

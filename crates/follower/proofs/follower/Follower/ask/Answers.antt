@@ -1,7 +1,7 @@
 use Rattle.std.proofs.Common.{length, ap}
 use Rattle.running.specs.Runners.{book_in, held_in}
 use Rattle.follower.specs.Model.{slots_of, question_of, answer_of, rows_after}
-use Rattle.follower.proofs.Asking.{answer-green, rows-green, asked-else}
+use Rattle.follower.proofs.Asking.{answer_green, rows_green, asked_else}
 use Rattle.follower.proofs.follower.Follower.ask.Goals as goal
 
 pub returns-in-Green : goal.returns-in-Green
@@ -10,8 +10,8 @@ returns-in-Green c =
     let rows = c.args.rows.now in
     let q = question_of c.args.question (length rows) in
     record {
-      answer = answer-green (slots_of f) (book_in f.runner) q (held_in f.runner) f.state c.in-Green.wanted c.requires c.in-Green.ensures c.read.result c.read.ensures.answer;
-      rows = rows-green (slots_of f) (book_in f.runner) q (held_in f.runner) f.state c.in-Green.wanted c.requires c.in-Green.ensures rows c.read.new.rows c.read.ensures.rows;
+      answer = answer_green (slots_of f) (book_in f.runner) q (held_in f.runner) f.state c.in-Green.wanted c.requires c.in-Green.ensures c.read.result c.read.ensures.answer;
+      rows = rows_green (slots_of f) (book_in f.runner) q (held_in f.runner) f.state c.in-Green.wanted c.requires c.in-Green.ensures rows c.read.new.rows c.read.ensures.rows;
     }
 
 pub returns-in-default : goal.returns-in-default
@@ -19,7 +19,7 @@ returns-in-default c =
     let f = c.args.self.now in
     let rows = c.args.rows.now in
     let q = question_of c.args.question (length rows) in
-    let e = asked-else (slots_of f) (book_in f.runner) q (held_in f.runner) f.state c.lamp.result c.requires c.lamp.ensures c.in-default.not-Green in
+    let e = asked_else (slots_of f) (book_in f.runner) q (held_in f.runner) f.state c.lamp.result c.requires c.lamp.ensures c.in-default.not-Green in
     record {
       answer = ap answer_of e;
       rows = ap (λ o. rows_after o rows) e;

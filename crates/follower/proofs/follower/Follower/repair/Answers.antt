@@ -3,7 +3,7 @@ use Rattle.codes.specs.declared.refusal.Refusal.TheVariants as refusal
 use Rattle.following.specs.Calls.{repair, repaired}
 use Rattle.following.specs.Follower.{moved}
 use Rattle.follower.specs.Model.{model, slots_of}
-use Rattle.follower.proofs.Mended.{other-session, waits, mends, mended-bounded}
+use Rattle.follower.proofs.Mended.{other_session, waits, mends, mended_bounded}
 use Rattle.follower.proofs.Outcomes.{came_accepted, came_refused}
 use Rattle.follower.proofs.Reaching.{reach}
 use Rattle.follower.proofs.follower.Follower.repair.Goals as goal
@@ -14,7 +14,7 @@ returns-then-not-agrees g c =
     record {
       outcome =
           came_refused f _ _ refusal.OtherSession _
-          (other-session (slots_of f) f.runner f.state c.in-Started.started (g.S.Source.meaning c.args.source.now) c.args.budget
+          (other_session (slots_of f) f.runner f.state c.in-Started.started (g.S.Source.meaning c.args.source.now) c.args.budget
           c.in-Started.is c.session-session.result c.session-session.ensures c.agrees.result c.agrees.ensures c.if-not-agrees.true)
           refl refl refl;
       agrees = c.requires.agrees;
@@ -38,7 +38,7 @@ returns-in-Waiting g c =
 pub settled-self-requires : goal.settled-self-requires
 settled-self-requires g c =
     let f = c.args.self.now in
-    mended-bounded (slots_of f) f.runner f.state c.in-Started.started (g.S.Source.meaning c.args.source.now) c.args.budget
+    mended_bounded (slots_of f) f.runner f.state c.in-Started.started (g.S.Source.meaning c.args.source.now) c.args.budget
     c.in-Started.is c.reached.result c.mend-repair.new.self c.mend-repair.result
     c.reached.ensures c.mend-repair.ensures.mended f.reached
 

@@ -5,14 +5,14 @@ use Rattle.following.specs.Follower.{moved}
 use Rattle.follower.specs.Model.{model, slots_of}
 use Rattle.follower.proofs.Outcomes.{came_accepted, came_refused}
 use Rattle.follower.proofs.Reaching.{reach}
-use Rattle.follower.proofs.Snapshots.{has-book, not_opened, unshown, unloaded, next-within, takes, taken-bounded}
+use Rattle.follower.proofs.Snapshots.{has_book, not_opened, unshown, unloaded, next_within, takes, taken_bounded}
 use Rattle.follower.proofs.follower.Follower.snapshot.Goals as goal
 
 pub returns-then-is-some : goal.returns-then-is-some
 returns-then-is-some c =
     let f = c.args.self.now in
     came_refused f _ _ refusal.HasBook _
-    (has-book (slots_of f) f.runner f.state c.in-Started.started c.args.bytes.now c.in-Started.is
+    (has_book (slots_of f) f.runner f.state c.in-Started.started c.args.bytes.now c.in-Started.is
     c.is-some.result c.is-some.ensures c.if-is-some.true)
     refl refl refl
 
@@ -48,7 +48,7 @@ complete-reached-requires c =
     record {
       ready = l.stays.ready;
       within =
-          next-within (slots_of f) f.runner f.state c.in-Started.started c.args.bytes.now c.in-Started.is
+          next_within (slots_of f) f.runner f.state c.in-Started.started c.args.bytes.now c.in-Started.is
           (sym c.is-some.ensures ∙ c.if-is-some.false)
           c.in-Ok.opened c.in-Ok.ensures.0 c.in-Ok.ensures.1 c.new.result c.new.ensures c.load.new.self
           c.in-Ok-load.next l.loaded;
@@ -58,7 +58,7 @@ pub settled-self-requires : goal.settled-self-requires
 settled-self-requires c =
     let f = c.args.self.now in
     let l = c.in-Ok-load.ensures in
-    taken-bounded (slots_of f) f.runner f.state c.in-Started.started c.args.bytes.now c.in-Started.is
+    taken_bounded (slots_of f) f.runner f.state c.in-Started.started c.args.bytes.now c.in-Started.is
     (sym c.is-some.ensures ∙ c.if-is-some.false)
     c.in-Ok.opened c.in-Ok.ensures.0 c.in-Ok.ensures.1 c.new.result c.new.ensures c.load.new.self
     c.in-Ok-load.next l.loaded l.stays.room l.held c.complete-reached.new.self c.complete-reached.result

@@ -5,7 +5,7 @@ use Rattle.following.specs.States.{begun, from_one}
 use Rattle.running.specs.Runners.{book_in, held_in}
 use Rattle.follower.specs.Model.{model, slots_of}
 use Rattle.follower.proofs.Reaching.{reach}
-use Rattle.follower.proofs.Outcomes.{came_accepted, starts-by-snapshot, begun_at}
+use Rattle.follower.proofs.Outcomes.{came_accepted, starts_by_snapshot, begun_at}
 use Rattle.follower.proofs.follower.Follower.start_by_snapshot.Goals as goal
 
 pub invariant-of-self-2 : goal.invariant-of-self-2
@@ -15,7 +15,7 @@ invariant-of-self-2 c =
       g.stays.ready,
       (
         reach _ _ _ _ start_by_snapshot g.stays.room
-            (begun_at None _ _ g.book g.held ∙ ap (λ o. moved o (model f)) (sym (starts-by-snapshot (slots_of f) (book_in f.runner) (held_in f.runner) f.state c.requires))) f.reached,
+            (begun_at None _ _ g.book g.held ∙ ap (λ o. moved o (model f)) (sym (starts_by_snapshot (slots_of f) (book_in f.runner) (held_in f.runner) f.state c.requires))) f.reached,
         tt,
       ),
     )
@@ -24,4 +24,4 @@ pub returns : goal.returns
 returns c =
     let f = c.args.self.now in
     let g = c.clear.ensures in
-    came_accepted f _ _ (begun None) done _ (starts-by-snapshot (slots_of f) (book_in f.runner) (held_in f.runner) f.state c.requires) (begun_at None _ _ g.book g.held) refl g.stays.room
+    came_accepted f _ _ (begun None) done _ (starts_by_snapshot (slots_of f) (book_in f.runner) (held_in f.runner) f.state c.requires) (begun_at None _ _ g.book g.held) refl g.stays.room

@@ -3,7 +3,7 @@ use Rattle.following.specs.Follower.{run_wanted}
 use Rattle.following.specs.declared.answers.Ending.TheVariants as ending
 use Rattle.running.specs.declared.moves.Reached.TheVariants as reached
 use Rattle.running.specs.Runners.{room_of, book_in, held_in, Within, Stays}
-use Rattle.running.proofs.Mending.{fetched, missed, at-stopped, at-bookless, at-green, at-budget, at-missing, ended, further}
+use Rattle.running.proofs.Mending.{fetched, missed, at_stopped, at_bookless, at_green, at_budget, at_missing, ended, further}
 use Rattle.running.proofs.runner.Runner.mend.Goals as goal
 use Rattle.running.proofs.runner.Runner.mend.Goals.{
   in-Stopped,
@@ -53,7 +53,7 @@ returns g c =
     elim c.match-reached.branch [
       | in-Stopped w ↦
           record {
-            mended = done (reached.Stopped w.in-Stopped.number w.in-Stopped.cause) ending.Red c.match-reached.ending w.in-Stopped.is (at-stopped room held k left w.in-Stopped.number w.in-Stopped.cause) w.reached-is w.ending-is;
+            mended = done (reached.Stopped w.in-Stopped.number w.in-Stopped.cause) ending.Red c.match-reached.ending w.in-Stopped.is (at_stopped room held k left w.in-Stopped.number w.in-Stopped.cause) w.reached-is w.ending-is;
             within = within w.reached-is;
             stays = stays;
             agrees = subst g.S.Source.agrees (sym w.source-is) i.0;
@@ -61,7 +61,7 @@ returns g c =
           }
       | in-NoBook w ↦
           record {
-            mended = done reached.NoBook ending.NotHeld c.match-reached.ending w.in-NoBook.is (at-bookless room held k left (held_in self)) w.reached-is w.ending-is;
+            mended = done reached.NoBook ending.NotHeld c.match-reached.ending w.in-NoBook.is (at_bookless room held k left (held_in self)) w.reached-is w.ending-is;
             within = within w.reached-is;
             stays = stays;
             agrees = subst g.S.Source.agrees (sym w.source-is) i.0;
@@ -70,7 +70,7 @@ returns g c =
       | in-Wanting+then-wanted-highest w ↦
           let at = w.reached-is ∙ sym w.in-Wanting.is in
           record {
-            mended = done (reached.Wanting w.in-Wanting.wanted) ending.Green c.match-reached.ending w.in-Wanting.is (at-green room held k (record { book = book_in self; wanted = w.in-Wanting.wanted }) (held_in self) left w.if-wanted-highest.true) at w.ending-is;
+            mended = done (reached.Wanting w.in-Wanting.wanted) ending.Green c.match-reached.ending w.in-Wanting.is (at_green room held k (record { book = book_in self; wanted = w.in-Wanting.wanted }) (held_in self) left w.if-wanted-highest.true) at w.ending-is;
             within = within at;
             stays = stays;
             agrees = subst g.S.Source.agrees (sym w.source-is) i.0;
@@ -79,7 +79,7 @@ returns g c =
       | in-Wanting+else-wanted-highest+then-left-eq0 w ↦
           let at = w.reached-is ∙ sym w.in-Wanting.is in
           record {
-            mended = done (reached.Wanting w.in-Wanting.wanted) ending.Budget c.match-reached.ending w.in-Wanting.is (at-budget room held k (record { book = book_in self; wanted = w.in-Wanting.wanted }) (held_in self) left w.if-left-eq0.true w.if-wanted-highest.false) at w.ending-is;
+            mended = done (reached.Wanting w.in-Wanting.wanted) ending.Budget c.match-reached.ending w.in-Wanting.is (at_budget room held k (record { book = book_in self; wanted = w.in-Wanting.wanted }) (held_in self) left w.if-left-eq0.true w.if-wanted-highest.false) at w.ending-is;
             within = within at;
             stays = stays;
             agrees = subst g.S.Source.agrees (sym w.source-is) i.0;
@@ -91,7 +91,7 @@ returns g c =
           let more : 0 < left = omega (arith, w.if-left-eq0.false) in
           let lacks = ap (λ m. m.held w.in-Wanting.wanted) (sym i.1) ∙ missed _ f.answers in
           record {
-            mended = done (reached.Wanting w.in-Wanting.wanted) ending.NotHeld c.match-reached.ending w.in-Wanting.is (at-missing room held k (record { book = book_in self; wanted = w.in-Wanting.wanted }) (held_in self) left more w.if-wanted-highest.false lacks) at w.ending-is;
+            mended = done (reached.Wanting w.in-Wanting.wanted) ending.NotHeld c.match-reached.ending w.in-Wanting.is (at_missing room held k (record { book = book_in self; wanted = w.in-Wanting.wanted }) (held_in self) left more w.if-wanted-highest.false lacks) at w.ending-is;
             within = within at;
             stays = stays;
             agrees = subst g.S.Source.agrees (sym w.source-is) f.agrees;

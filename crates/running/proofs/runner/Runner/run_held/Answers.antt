@@ -1,7 +1,7 @@
 use Rattle.std.proofs.Common.{◌≡◌, ◌+◌, map, drop, sym, refl, ap, ◌∙◌}
 use Rattle.table.specs.Tables.{entries}
 use Rattle.book.specs.Books.{plain}
-use Rattle.following.specs.Follower.{wanting, run-held}
+use Rattle.following.specs.Follower.{wanting, run_held}
 use Rattle.running.specs.Rows.{held_message, all_numbered}
 use Rattle.running.specs.Runners.{room_of}
 use Rattle.running.proofs.Turns.{numbered_drop, stays}
@@ -19,7 +19,7 @@ returns-in-Ok c =
       place =
           ap (λ rs. wanting (record { book = plain c.run_rows.new.book; wanted = w + ran }) (map held_message rs)) (g.entries ∙ ap (drop ran) (sym e))
           ∙ sym (f.runs.2 (room_of self) refl)
-          ∙ ap (λ rs. run-held (room_of self) (plain self.book.now) w (map held_message rs)) e;
+          ∙ ap (λ rs. run_held (room_of self) (plain self.book.now) w (map held_message rs)) e;
       within = f.runs.1;
       stays = stays _ _ f.slots g.room (g.kept, ap all_numbered g.entries ∙ numbered_drop ran (entries self.held) c.requires.ready.1);
     }
@@ -29,7 +29,7 @@ returns-in-Err c =
     let self = c.args.self.now in
     let f = c.in-Err.ensures in
     record {
-      place = sym (f.runs.1 (room_of self) refl) ∙ ap (λ rs. run-held (room_of self) (plain self.book.now) c.args.wanted (map held_message rs)) c.entries.ensures;
+      place = sym (f.runs.1 (room_of self) refl) ∙ ap (λ rs. run_held (room_of self) (plain self.book.now) c.args.wanted (map held_message rs)) c.entries.ensures;
       within = f.runs.0;
       stays = stays _ _ f.slots refl c.requires.ready;
     }

@@ -2,7 +2,7 @@ use Rattle.std.proofs.Common.{◌≡◌, ◌<◌, ◌≤◌, sym, refl, ap, ◌�
 use Rattle.wire.specs.Packets.{left_in}
 use Rattle.following.specs.Follower.{Place, Fate, treated, counts_of}
 use Rattle.running.specs.Runners.{room_of, place_in, fate_of}
-use Rattle.running.proofs.Counting.{added, added_one, added_first, added_last, bounded_one, countable, place-next, counts-next, place_end, counts_end, walk_first}
+use Rattle.running.proofs.Counting.{added, added_one, added_first, added_last, bounded_one, countable, place_next, counts_next, place_end, counts_end, walk_first}
 use Rattle.running.proofs.runner.Runner.treat_all.Goals as goal
 
 pub treat-treated-requires : goal.treat-treated-requires
@@ -48,9 +48,9 @@ loop-message-preserved c =
       g.stays.ready,
       g.within,
       g.stays.room ∙ i.4,
-      i.5 ∙ place-next room p q fate rest.number next.number m.bytes.now (left_in rest) (left_in next) f.steps.0 f.steps.2 t,
+      i.5 ∙ place_next room p q fate rest.number next.number m.bytes.now (left_in rest) (left_in next) f.steps.0 f.steps.2 t,
       i.6
-          ∙ ap (added c.loop-message.counts) (counts-next room p q fate rest.number next.number m.bytes.now (left_in rest) (left_in next) f.steps.0 f.steps.2 t)
+          ∙ ap (added c.loop-message.counts) (counts_next room p q fate rest.number next.number m.bytes.now (left_in rest) (left_in next) f.steps.0 f.steps.2 t)
           ∙ added_one fate c.loop-message.counts (counts_of room q next.number (left_in next))
           ∙ ap (λ x. added x (counts_of room q next.number (left_in next))) (sym c.counted-counts.ensures),
       rw c.counted-counts.ensures (bounded_one fate c.loop-message.counts rest.left next.left l i.7),

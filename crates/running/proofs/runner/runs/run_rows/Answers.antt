@@ -3,9 +3,9 @@ use Rattle.std.proofs.lemmas.List.{drop_all}
 use Rattle.wire.specs.Numbers.{most32}
 use Rattle.book.specs.Books.{plain}
 use Rattle.book.specs.Plain.{ran}
-use Rattle.following.specs.Follower.{wanting, stopped, run-held}
+use Rattle.following.specs.Follower.{wanting, stopped, run_held}
 use Rattle.running.specs.Rows.{held_message, message_in}
-use Rattle.running.proofs.Turns.{blank, numbered_at, row-waits, row-runs, rows_end}
+use Rattle.running.proofs.Turns.{blank, numbered_at, row_waits, row_runs, rows_end}
 use Rattle.running.proofs.runner.runs.run_rows.Goals as goal
 
 pub returns-then-number-next : goal.returns-then-number-next
@@ -19,7 +19,7 @@ returns-then-number-next c =
         omega arith,
         λ room e.
             i.3 room e
-            ∙ row-waits room (plain c.loop-ran.book) c.loop-ran.next rows c.loop-ran.ran blank c.loop-ran-test.true
+            ∙ row_waits room (plain c.loop-ran.book) c.loop-ran.next rows c.loop-ran.ran blank c.loop-ran-test.true
             (λ q. c.if-number-next.true (c.number.ensures ∙ q))
             ∙ ap (λ n. wanting (record { book = plain c.loop-ran.book; wanted = n }) (map held_message (drop c.loop-ran.ran rows))) w,
       );
@@ -37,7 +37,7 @@ returns-in-Err c =
         omega (arith, at, numbered_at rows c.loop-ran.ran blank c.requires.numbered c.loop-ran-test.true),
         λ room e.
             i.3 room e
-            ∙ row-runs room (plain c.loop-ran.book) c.loop-ran.next rows c.loop-ran.ran blank (Err c.in-Err.cause) c.loop-ran-test.true at
+            ∙ row_runs room (plain c.loop-ran.book) c.loop-ran.next rows c.loop-ran.ran blank (Err c.in-Err.cause) c.loop-ran-test.true at
             (f.answer ∙ ap (λ s. ran s (plain c.loop-ran.book) c.message.result.now) (i.2 ∙ sym e) ∙ ap (ran room.for_book (plain c.loop-ran.book)) c.message.ensures),
       );
       slots = f.slots ∙ i.2;
@@ -54,7 +54,7 @@ loop-ran-preserved c =
       f.slots ∙ i.2,
       λ room e.
           i.3 room e
-          ∙ row-runs room (plain c.loop-ran.book) c.loop-ran.next rows c.loop-ran.ran blank (Ok (plain c.run.new.self)) c.loop-ran-test.true at
+          ∙ row_runs room (plain c.loop-ran.book) c.loop-ran.next rows c.loop-ran.ran blank (Ok (plain c.run.new.self)) c.loop-ran-test.true at
           (f.answer ∙ ap (λ s. ran s (plain c.loop-ran.book) c.message.result.now) (i.2 ∙ sym e) ∙ ap (ran room.for_book (plain c.loop-ran.book)) c.message.ensures),
     )
 
