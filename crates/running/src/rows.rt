@@ -1,6 +1,8 @@
 // The rows of held messages.
 ghost use Rattle.std.specs.Prelude.{◌≡◌, ◌≤◌, length};
 ghost use Rattle.book.specs.Keys.{by_number};
+ghost use Rattle.std.specs.Cmp.{nat_cmp_total};
+ghost use Rattle.table.proofs.Laws.{total_lawful};
 ghost use Rattle.running.specs.Rows.{row_number, message_in};
 
 use std::cmp::Ordering;

@@ -133,10 +133,10 @@ impl<'a, 'b> Follower<'a, 'b> {
         budget: u32,
     ) -> Result<Answer, Refusal>
         requires started { is_started self.old.state ≡ true }
-        requires agrees { agrees source.old }
-        ensures outcome { CameOut self.old self.new (outcome (slots_of self.old) (model self.old) (repair (meaning source.old) budget)) result }
-        ensures agrees { agrees source.new }
-        ensures meaning { meaning source.new ≡ meaning source.old }
+        requires agrees { S.agrees source.old }
+        ensures outcome { CameOut self.old self.new (outcome (slots_of self.old) (model self.old) (repair (S.meaning source.old) budget)) result }
+        ensures agrees { S.agrees source.new }
+        ensures meaning { S.meaning source.new ≡ S.meaning source.old }
     {
         let State::Started(started) = self.state else {
             return Err(Refusal::Dark);

@@ -22,12 +22,12 @@ impl<'a, 'b> Runner<'a, 'b> {
         requires ready { Ready self.old }
         requires within { Within reached }
         requires heard { highest ≤ most32 }
-        requires agrees { agrees source.old }
-        ensures mended { mended_in self.new result ≡ mended (room_of self.old) (meaning source.old).held highest budget (place_in self.old reached) }
+        requires agrees { S.agrees source.old }
+        ensures mended { mended_in self.new result ≡ mended (room_of self.old) (S.meaning source.old).held highest budget (place_in self.old reached) }
         ensures within { Within result.reached }
         ensures stays { Stays self.old self.new }
-        ensures agrees { agrees source.new }
-        ensures meaning { meaning source.new ≡ meaning source.old }
+        ensures agrees { S.agrees source.new }
+        ensures meaning { S.meaning source.new ≡ S.meaning source.old }
     {
         let mut reached = reached;
         let mut left = budget;

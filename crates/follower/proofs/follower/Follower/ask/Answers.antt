@@ -14,12 +14,12 @@ returns-in-Green c =
       rows = rows_green (slots_of f) (book_in f.runner) q (held_in f.runner) f.state c.in-Green.wanted c.requires c.in-Green.ensures rows c.read.new.rows c.read.ensures.rows;
     }
 
-pub returns-in-default : goal.returns-in-default
-returns-in-default c =
+pub returns-in_default : goal.returns-in_default
+returns-in_default c =
     let f = c.args.self.now in
     let rows = c.args.rows.now in
     let q = question_of c.args.question (length rows) in
-    let e = asked_else (slots_of f) (book_in f.runner) q (held_in f.runner) f.state c.lamp.result c.requires c.lamp.ensures c.in-default.not-Green in
+    let e = asked_else (slots_of f) (book_in f.runner) q (held_in f.runner) f.state c.lamp.result c.requires c.lamp.ensures c.in_default.not-Green in
     record {
       answer = ap answer_of e;
       rows = ap (λ o. rows_after o rows) e;

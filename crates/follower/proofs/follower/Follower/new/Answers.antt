@@ -2,6 +2,6 @@ use Rattle.std.proofs.Common.{[], refl, rules}
 use Rattle.following.specs.Days.{after}
 use Rattle.follower.proofs.follower.Follower.new.Goals as goal
 
-pub invariant-of-result : goal.invariant-of-result
+pub invariant_of-result : goal.invariant_of-result
 unfolding after
-invariant-of-result c = (c.new.ensures.ready, (∣ ([], refl) ∣₁, tt))
+invariant_of-result c = (c.new.ensures.ready, (∣ ([], refl) ∣₁, tt))

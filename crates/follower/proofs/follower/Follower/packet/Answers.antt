@@ -26,14 +26,14 @@ pub settled-self-requires : goal.settled-self-requires
 settled-self-requires c =
     let b = c.in-Heartbeat in
     beat_bounded c.args.self.now c.in-Started.started c.in-Started.is c.args.bytes.now b.next b.session (read_as c.in-Ok.packet _ c.args.bytes.now c.in-Ok.ensures b.is)
-    c.saturating-sub.result c.max-highest.result c.saturating-sub.ensures c.max-highest.ensures c.reached.result c.reached.ensures
+    c.saturating_sub.result c.max-highest.result c.saturating_sub.ensures c.max-highest.ensures c.reached.result c.reached.ensures
 
-pub invariant-of-self : goal.invariant-of-self
-invariant-of-self c =
+pub invariant_of-self : goal.invariant_of-self
+invariant_of-self c =
     let f = c.args.self.now in
     let b = c.in-Heartbeat in
     let o = heard_beat f c.in-Started.started c.in-Started.is c.args.bytes.now b.next b.session (read_as c.in-Ok.packet _ c.args.bytes.now c.in-Ok.ensures b.is)
-    c.saturating-sub.result c.max-highest.result c.saturating-sub.ensures c.max-highest.ensures c.reached.result c.reached.ensures
+    c.saturating_sub.result c.max-highest.result c.saturating_sub.ensures c.max-highest.ensures c.reached.result c.reached.ensures
     (sym c.if-not-agrees.ensures) in
     (f.ready, (reach _ _ _ _ (packet c.args.bytes.now) refl (c.settled-self.ensures f.runner ∙ ap (λ x. moved x (model f)) (sym o)) f.reached, tt))
 
@@ -42,25 +42,25 @@ returns-else-not-agrees c =
     let f = c.args.self.now in
     let b = c.in-Heartbeat in
     let o = heard_beat f c.in-Started.started c.in-Started.is c.args.bytes.now b.next b.session (read_as c.in-Ok.packet _ c.args.bytes.now c.in-Ok.ensures b.is)
-    c.saturating-sub.result c.max-highest.result c.saturating-sub.ensures c.max-highest.ensures c.reached.result c.reached.ensures
+    c.saturating_sub.result c.max-highest.result c.saturating_sub.ensures c.max-highest.ensures c.reached.result c.reached.ensures
     (sym c.if-not-agrees.ensures) in
     came_accepted f _ _ _ (counted no_counts) _ o (c.settled-self.ensures f.runner) refl refl
 
 pub settled-self-requires-in-Data : goal.settled-self-requires-in-Data
 settled-self-requires-in-Data c =
     let m = c.in-Data.messages in
-    let l = c.last-number in
-    let g = c.treat-all-reached in
+    let l = c.last_number in
+    let g = c.treat_all-reached in
     data_bounded c.args.self.now c.in-Started.started c.in-Started.is c.args.bytes.now m.number (left_in m) (read_as c.in-Ok.packet _ c.args.bytes.now c.in-Ok.ensures c.in-Data.is)
     l.result c.max-highest-in-Data.result l.ensures.last c.max-highest-in-Data.ensures
     c.reached-in-Data.result c.reached-in-Data.ensures g.new.self g.result.1 g.ensures.place l.ensures.within
 
-pub invariant-of-self-in-Data : goal.invariant-of-self-in-Data
-invariant-of-self-in-Data c =
+pub invariant_of-self-in-Data : goal.invariant_of-self-in-Data
+invariant_of-self-in-Data c =
     let f = c.args.self.now in
     let m = c.in-Data.messages in
-    let l = c.last-number in
-    let g = c.treat-all-reached in
+    let l = c.last_number in
+    let g = c.treat_all-reached in
     let o = heard_data f c.in-Started.started c.in-Started.is c.args.bytes.now m.number (left_in m) (read_as c.in-Ok.packet _ c.args.bytes.now c.in-Ok.ensures c.in-Data.is)
     l.result c.max-highest-in-Data.result l.ensures.last c.max-highest-in-Data.ensures
     c.reached-in-Data.result c.reached-in-Data.ensures g.new.self g.result.1 g.ensures.place g.result.0 g.ensures.counts in (
@@ -76,8 +76,8 @@ pub returns-in-Data : goal.returns-in-Data
 returns-in-Data c =
     let f = c.args.self.now in
     let m = c.in-Data.messages in
-    let l = c.last-number in
-    let g = c.treat-all-reached in
+    let l = c.last_number in
+    let g = c.treat_all-reached in
     let o = heard_data f c.in-Started.started c.in-Started.is c.args.bytes.now m.number (left_in m) (read_as c.in-Ok.packet _ c.args.bytes.now c.in-Ok.ensures c.in-Data.is)
     l.result c.max-highest-in-Data.result l.ensures.last c.max-highest-in-Data.ensures
     c.reached-in-Data.result c.reached-in-Data.ensures g.new.self g.result.1 g.ensures.place g.result.0 g.ensures.counts in

@@ -42,8 +42,8 @@ settled-self-requires g c =
     c.in-Started.is c.reached.result c.mend-repair.new.self c.mend-repair.result
     c.reached.ensures c.mend-repair.ensures.mended f.reached
 
-pub invariant-of-self : goal.invariant-of-self
-invariant-of-self g c =
+pub invariant_of-self : goal.invariant_of-self
+invariant_of-self g c =
     let f = c.args.self.now in (
       c.mend-repair.ensures.stays.ready,
       (
@@ -51,7 +51,7 @@ invariant-of-self g c =
             c.mend-repair.ensures.stays.room
             (c.settled-self.ensures c.mend-repair.new.self ∙ ap (λ o. moved o (model f)) (sym (mends (slots_of f) f.runner f.state c.in-Started.started (g.S.Source.meaning c.args.source.now) c.args.budget
             c.in-Started.is c.session-session.result c.session-session.ensures c.agrees.result c.agrees.ensures c.if-not-agrees.false
-            c.lamp.result c.lamp.ensures c.in-default-lamp.not-Waiting
+            c.lamp.result c.lamp.ensures c.in_default-lamp.not-Waiting
             c.reached.result c.mend-repair.new.self c.mend-repair.result c.reached.ensures c.mend-repair.ensures.mended))) f.reached,
         tt,
       ),
@@ -65,7 +65,7 @@ returns g c =
           came_accepted f _ _ _ (repaired c.mend-repair.result.fetched c.mend-repair.result.ending) _
           (mends (slots_of f) f.runner f.state c.in-Started.started (g.S.Source.meaning c.args.source.now) c.args.budget
           c.in-Started.is c.session-session.result c.session-session.ensures c.agrees.result c.agrees.ensures c.if-not-agrees.false
-          c.lamp.result c.lamp.ensures c.in-default-lamp.not-Waiting
+          c.lamp.result c.lamp.ensures c.in_default-lamp.not-Waiting
           c.reached.result c.mend-repair.new.self c.mend-repair.result c.reached.ensures c.mend-repair.ensures.mended)
           (c.settled-self.ensures c.mend-repair.new.self) refl c.mend-repair.ensures.stays.room;
       agrees = c.mend-repair.ensures.agrees;

@@ -8,12 +8,12 @@ use Rattle.follower.proofs.Reaching.{reach}
 use Rattle.follower.proofs.Snapshots.{has_book, not_opened, unshown, unloaded, next_within, takes, taken_bounded}
 use Rattle.follower.proofs.follower.Follower.snapshot.Goals as goal
 
-pub returns-then-is-some : goal.returns-then-is-some
-returns-then-is-some c =
+pub returns-then-is_some : goal.returns-then-is_some
+returns-then-is_some c =
     let f = c.args.self.now in
     came_refused f _ _ refusal.HasBook _
     (has_book (slots_of f) f.runner f.state c.in-Started.started c.args.bytes.now c.in-Started.is
-    c.is-some.result c.is-some.ensures c.if-is-some.true)
+    c.is_some.result c.is_some.ensures c.if-is_some.true)
     refl refl refl
 
 pub returns-in-Err : goal.returns-in-Err
@@ -21,13 +21,13 @@ returns-in-Err c =
     let f = c.args.self.now in
     came_refused f _ _ c.in-Err.refusal _
     (not_opened (slots_of f) f.runner f.state c.in-Started.started c.args.bytes.now c.in-Started.is
-    (sym c.is-some.ensures ∙ c.if-is-some.false) c.in-Err.refusal c.in-Err.ensures)
+    (sym c.is_some.ensures ∙ c.if-is_some.false) c.in-Err.refusal c.in-Err.ensures)
     refl refl refl
 
-pub invariant-of-self : goal.invariant-of-self
-invariant-of-self c =
+pub invariant_of-self : goal.invariant_of-self
+invariant_of-self c =
     let f = c.args.self.now in
-    let none = sym c.is-some.ensures ∙ c.if-is-some.false in
+    let none = sym c.is_some.ensures ∙ c.if-is_some.false in
     let l = c.in-Err-load.ensures in (
       l.stays.ready,
       (
@@ -49,7 +49,7 @@ complete-reached-requires c =
       ready = l.stays.ready;
       within =
           next_within (slots_of f) f.runner f.state c.in-Started.started c.args.bytes.now c.in-Started.is
-          (sym c.is-some.ensures ∙ c.if-is-some.false)
+          (sym c.is_some.ensures ∙ c.if-is_some.false)
           c.in-Ok.opened c.in-Ok.ensures.0 c.in-Ok.ensures.1 c.new.result c.new.ensures c.load.new.self
           c.in-Ok-load.next l.loaded;
     }
@@ -59,15 +59,15 @@ settled-self-requires c =
     let f = c.args.self.now in
     let l = c.in-Ok-load.ensures in
     taken_bounded (slots_of f) f.runner f.state c.in-Started.started c.args.bytes.now c.in-Started.is
-    (sym c.is-some.ensures ∙ c.if-is-some.false)
+    (sym c.is_some.ensures ∙ c.if-is_some.false)
     c.in-Ok.opened c.in-Ok.ensures.0 c.in-Ok.ensures.1 c.new.result c.new.ensures c.load.new.self
     c.in-Ok-load.next l.loaded l.stays.room l.held c.complete-reached.new.self c.complete-reached.result
     c.complete-reached.ensures.place c.max-highest.result
-    (c.max-highest.ensures ∙ ap (max c.in-Started.started.marks.highest) (c.saturating-sub.ensures ∙ sub-one c.in-Ok-load.next))
+    (c.max-highest.ensures ∙ ap (max c.in-Started.started.marks.highest) (c.saturating_sub.ensures ∙ sub-one c.in-Ok-load.next))
     f.reached
 
-pub invariant-of-self-in-Ok-load : goal.invariant-of-self-in-Ok-load
-invariant-of-self-in-Ok-load c =
+pub invariant_of-self-in-Ok-load : goal.invariant_of-self-in-Ok-load
+invariant_of-self-in-Ok-load c =
     let f = c.args.self.now in
     let l = c.in-Ok-load.ensures in
     let g = c.complete-reached.ensures in (
@@ -77,11 +77,11 @@ invariant-of-self-in-Ok-load c =
             (c.settled-self.ensures c.complete-reached.new.self
             ∙ ap (λ o. moved o (model f))
             (sym (takes (slots_of f) f.runner f.state c.in-Started.started c.args.bytes.now c.in-Started.is
-            (sym c.is-some.ensures ∙ c.if-is-some.false)
+            (sym c.is_some.ensures ∙ c.if-is_some.false)
             c.in-Ok.opened c.in-Ok.ensures.0 c.in-Ok.ensures.1 c.new.result c.new.ensures c.load.new.self
             c.in-Ok-load.next l.loaded l.stays.room l.held c.complete-reached.new.self c.complete-reached.result
             g.place c.max-highest.result
-            (c.max-highest.ensures ∙ ap (max c.in-Started.started.marks.highest) (c.saturating-sub.ensures ∙ sub-one c.in-Ok-load.next))))) f.reached,
+            (c.max-highest.ensures ∙ ap (max c.in-Started.started.marks.highest) (c.saturating_sub.ensures ∙ sub-one c.in-Ok-load.next))))) f.reached,
         tt,
       ),
     )
@@ -89,7 +89,7 @@ invariant-of-self-in-Ok-load c =
 pub returns-in-Err-load : goal.returns-in-Err-load
 returns-in-Err-load c =
     let f = c.args.self.now in
-    let none = sym c.is-some.ensures ∙ c.if-is-some.false in
+    let none = sym c.is_some.ensures ∙ c.if-is_some.false in
     let l = c.in-Err-load.ensures in
     came_refused f _ _ c.in-Err-load.refusal _
     (unloaded (slots_of f) f.runner f.state c.in-Started.started c.args.bytes.now c.in-Started.is none
@@ -105,9 +105,9 @@ returns-in-Ok-load c =
     let g = c.complete-reached.ensures in
     came_accepted f _ _ _ (snapshot_taken c.in-Ok-load.next) _
     (takes (slots_of f) f.runner f.state c.in-Started.started c.args.bytes.now c.in-Started.is
-    (sym c.is-some.ensures ∙ c.if-is-some.false)
+    (sym c.is_some.ensures ∙ c.if-is_some.false)
     c.in-Ok.opened c.in-Ok.ensures.0 c.in-Ok.ensures.1 c.new.result c.new.ensures c.load.new.self
     c.in-Ok-load.next l.loaded l.stays.room l.held c.complete-reached.new.self c.complete-reached.result
     g.place c.max-highest.result
-    (c.max-highest.ensures ∙ ap (max c.in-Started.started.marks.highest) (c.saturating-sub.ensures ∙ sub-one c.in-Ok-load.next)))
+    (c.max-highest.ensures ∙ ap (max c.in-Started.started.marks.highest) (c.saturating_sub.ensures ∙ sub-one c.in-Ok-load.next)))
     (c.settled-self.ensures c.complete-reached.new.self) refl (g.stays.room ∙ l.stays.room)

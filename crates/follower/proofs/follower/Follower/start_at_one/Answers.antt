@@ -8,8 +8,8 @@ use Rattle.follower.proofs.Reaching.{reach}
 use Rattle.follower.proofs.Outcomes.{came_accepted, starts_at_one, begun_at}
 use Rattle.follower.proofs.follower.Follower.start_at_one.Goals as goal
 
-pub invariant-of-self-2 : goal.invariant-of-self-2
-invariant-of-self-2 c =
+pub invariant_of-self-2 : goal.invariant_of-self-2
+invariant_of-self-2 c =
     let f = c.args.self.now in
     let g = c.clear.ensures in (
       g.stays.ready,

@@ -8,8 +8,8 @@ use Rattle.follower.proofs.Reaching.{reach}
 use Rattle.follower.proofs.Outcomes.{came_accepted, stops}
 use Rattle.follower.proofs.follower.Follower.stop.Goals as goal
 
-pub invariant-of-self : goal.invariant-of-self
-invariant-of-self c =
+pub invariant_of-self : goal.invariant_of-self
+invariant_of-self c =
     let f = c.args.self.now in
     (f.ready, (reach _ _ _ _ stop refl (ap (λ o. moved o (model f)) (sym (stops (slots_of f) (book_in f.runner) (held_in f.runner) f.state c.requires))) f.reached, tt))
 

@@ -29,6 +29,6 @@ returns c =
     let rest = c.loop-message.rest in
     let all = c.args.messages in
     record {
-      last = walked_all all.number rest.number c.loop-message.last (left_in all) (left_in rest) c.in-default.ensures.steps.0 i.3 i.4;
+      last = walked_all all.number rest.number c.loop-message.last (left_in all) (left_in rest) c.in_default.ensures.steps.0 i.3 i.4;
       within = i.2;
     }

@@ -23,7 +23,7 @@ pub loop-message-init : goal.loop-message-init
 loop-message-init c =
     let self = c.args.self.now in
     let m = c.args.messages in
-    let l : m.left ≤ 65535 = omega (arith, c.well-formed) in
+    let l : m.left ≤ 65535 = omega (arith, c.well_formed) in
     (tt, tt, c.requires.ready, c.requires.within, refl, refl, added_first (counts_of (room_of self) (place_in self c.args.reached) m.number (left_in m)), (omega arith, omega arith, omega arith, omega arith))
 
 pub loop-message-preserved : goal.loop-message-preserved
