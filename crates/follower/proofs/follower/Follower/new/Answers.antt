@@ -4,4 +4,4 @@ use Rattle.follower.proofs.follower.Follower.new.Goals as goal
 
 pub invariant_of-result : goal.invariant_of-result
 unfolding after
-invariant_of-result c = (c.new.ensures.ready, (∣ ([], refl) ∣₁, tt))
+invariant_of-result c = record { ready = c.new.ensures.ready; reached = ∣ ([], refl) ∣₁ }

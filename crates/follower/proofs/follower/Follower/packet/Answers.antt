@@ -35,7 +35,7 @@ invariant_of-self c =
     let o = heard_beat f c.in-Started.started c.in-Started.is c.args.bytes.now b.next b.session (read_as c.in-Ok.packet _ c.args.bytes.now c.in-Ok.ensures b.is)
     c.saturating_sub.result c.max-highest.result c.saturating_sub.ensures c.max-highest.ensures c.reached.result c.reached.ensures
     (sym c.if-not-agrees.ensures) in
-    (f.ready, (reach _ _ _ _ (packet c.args.bytes.now) refl (c.settled-self.ensures f.runner ∙ ap (λ x. moved x (model f)) (sym o)) f.reached, tt))
+    record { ready = f.ready; reached = reach _ _ _ _ (packet c.args.bytes.now) refl (c.settled-self.ensures f.runner ∙ ap (λ x. moved x (model f)) (sym o)) f.reached }
 
 pub returns-else-not-agrees : goal.returns-else-not-agrees
 returns-else-not-agrees c =
@@ -63,14 +63,13 @@ invariant_of-self-in-Data c =
     let g = c.treat_all-reached in
     let o = heard_data f c.in-Started.started c.in-Started.is c.args.bytes.now m.number (left_in m) (read_as c.in-Ok.packet _ c.args.bytes.now c.in-Ok.ensures c.in-Data.is)
     l.result c.max-highest-in-Data.result l.ensures.last c.max-highest-in-Data.ensures
-    c.reached-in-Data.result c.reached-in-Data.ensures g.new.self g.result.1 g.ensures.place g.result.0 g.ensures.counts in (
-      g.ensures.stays.ready,
-      (
-        reach _ _ _ _ (packet c.args.bytes.now) g.ensures.stays.room
-            (c.settled-self-in-Data.ensures g.new.self ∙ ap (λ x. moved x (model f)) (sym o)) f.reached,
-        tt,
-      ),
-    )
+    c.reached-in-Data.result c.reached-in-Data.ensures g.new.self g.result.1 g.ensures.place g.result.0 g.ensures.counts in
+    record {
+      ready = g.ensures.stays.ready;
+      reached =
+          reach _ _ _ _ (packet c.args.bytes.now) g.ensures.stays.room
+          (c.settled-self-in-Data.ensures g.new.self ∙ ap (λ x. moved x (model f)) (sym o)) f.reached;
+    }
 
 pub returns-in-Data : goal.returns-in-Data
 returns-in-Data c =

@@ -44,18 +44,17 @@ settled-self-requires g c =
 
 pub invariant_of-self : goal.invariant_of-self
 invariant_of-self g c =
-    let f = c.args.self.now in (
-      c.mend-repair.ensures.stays.ready,
-      (
-        reach _ _ _ _ (repair (g.S.Source.meaning c.args.source.now) c.args.budget)
-            c.mend-repair.ensures.stays.room
-            (c.settled-self.ensures c.mend-repair.new.self ∙ ap (λ o. moved o (model f)) (sym (mends (slots_of f) f.runner f.state c.in-Started.started (g.S.Source.meaning c.args.source.now) c.args.budget
-            c.in-Started.is c.session-session.result c.session-session.ensures c.agrees.result c.agrees.ensures c.if-not-agrees.false
-            c.lamp.result c.lamp.ensures c.in_default-lamp.not-Waiting
-            c.reached.result c.mend-repair.new.self c.mend-repair.result c.reached.ensures c.mend-repair.ensures.mended))) f.reached,
-        tt,
-      ),
-    )
+    let f = c.args.self.now in
+    record {
+      ready = c.mend-repair.ensures.stays.ready;
+      reached =
+          reach _ _ _ _ (repair (g.S.Source.meaning c.args.source.now) c.args.budget)
+          c.mend-repair.ensures.stays.room
+          (c.settled-self.ensures c.mend-repair.new.self ∙ ap (λ o. moved o (model f)) (sym (mends (slots_of f) f.runner f.state c.in-Started.started (g.S.Source.meaning c.args.source.now) c.args.budget
+          c.in-Started.is c.session-session.result c.session-session.ensures c.agrees.result c.agrees.ensures c.if-not-agrees.false
+          c.lamp.result c.lamp.ensures c.in_default-lamp.not-Waiting
+          c.reached.result c.mend-repair.new.self c.mend-repair.result c.reached.ensures c.mend-repair.ensures.mended))) f.reached;
+    }
 
 pub returns : goal.returns
 returns g c =

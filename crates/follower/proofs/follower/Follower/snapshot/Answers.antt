@@ -28,18 +28,17 @@ pub invariant_of-self : goal.invariant_of-self
 invariant_of-self c =
     let f = c.args.self.now in
     let none = sym c.is_some.ensures ∙ c.if-is_some.false in
-    let l = c.in-Err-load.ensures in (
-      l.stays.ready,
-      (
-        reach _ _ _ _ (snapshot c.args.bytes.now) l.stays.room
-            (unshown (slots_of f) f.runner f.state c.in-Started.started c.args.bytes.now c.in-Started.is none c.load.new.self l.held
-            ∙ ap (λ o. moved o (model f))
-            (sym (unloaded (slots_of f) f.runner f.state c.in-Started.started c.args.bytes.now c.in-Started.is none
-            c.in-Ok.opened c.in-Ok.ensures.0 c.in-Ok.ensures.1 c.new.result c.new.ensures c.load.new.self
-            c.in-Err-load.refusal l.loaded))) f.reached,
-        tt,
-      ),
-    )
+    let l = c.in-Err-load.ensures in
+    record {
+      ready = l.stays.ready;
+      reached =
+          reach _ _ _ _ (snapshot c.args.bytes.now) l.stays.room
+          (unshown (slots_of f) f.runner f.state c.in-Started.started c.args.bytes.now c.in-Started.is none c.load.new.self l.held
+          ∙ ap (λ o. moved o (model f))
+          (sym (unloaded (slots_of f) f.runner f.state c.in-Started.started c.args.bytes.now c.in-Started.is none
+          c.in-Ok.opened c.in-Ok.ensures.0 c.in-Ok.ensures.1 c.new.result c.new.ensures c.load.new.self
+          c.in-Err-load.refusal l.loaded))) f.reached;
+    }
 
 pub complete-reached-requires : goal.complete-reached-requires
 complete-reached-requires c =
@@ -70,21 +69,20 @@ pub invariant_of-self-in-Ok-load : goal.invariant_of-self-in-Ok-load
 invariant_of-self-in-Ok-load c =
     let f = c.args.self.now in
     let l = c.in-Ok-load.ensures in
-    let g = c.complete-reached.ensures in (
-      g.stays.ready,
-      (
-        reach _ _ _ _ (snapshot c.args.bytes.now) (g.stays.room ∙ l.stays.room)
-            (c.settled-self.ensures c.complete-reached.new.self
-            ∙ ap (λ o. moved o (model f))
-            (sym (takes (slots_of f) f.runner f.state c.in-Started.started c.args.bytes.now c.in-Started.is
-            (sym c.is_some.ensures ∙ c.if-is_some.false)
-            c.in-Ok.opened c.in-Ok.ensures.0 c.in-Ok.ensures.1 c.new.result c.new.ensures c.load.new.self
-            c.in-Ok-load.next l.loaded l.stays.room l.held c.complete-reached.new.self c.complete-reached.result
-            g.place c.max-highest.result
-            (c.max-highest.ensures ∙ ap (max c.in-Started.started.marks.highest) (c.saturating_sub.ensures ∙ sub-one c.in-Ok-load.next))))) f.reached,
-        tt,
-      ),
-    )
+    let g = c.complete-reached.ensures in
+    record {
+      ready = g.stays.ready;
+      reached =
+          reach _ _ _ _ (snapshot c.args.bytes.now) (g.stays.room ∙ l.stays.room)
+          (c.settled-self.ensures c.complete-reached.new.self
+          ∙ ap (λ o. moved o (model f))
+          (sym (takes (slots_of f) f.runner f.state c.in-Started.started c.args.bytes.now c.in-Started.is
+          (sym c.is_some.ensures ∙ c.if-is_some.false)
+          c.in-Ok.opened c.in-Ok.ensures.0 c.in-Ok.ensures.1 c.new.result c.new.ensures c.load.new.self
+          c.in-Ok-load.next l.loaded l.stays.room l.held c.complete-reached.new.self c.complete-reached.result
+          g.place c.max-highest.result
+          (c.max-highest.ensures ∙ ap (max c.in-Started.started.marks.highest) (c.saturating_sub.ensures ∙ sub-one c.in-Ok-load.next))))) f.reached;
+    }
 
 pub returns-in-Err-load : goal.returns-in-Err-load
 returns-in-Err-load c =

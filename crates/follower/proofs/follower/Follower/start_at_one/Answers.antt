@@ -11,14 +11,13 @@ use Rattle.follower.proofs.follower.Follower.start_at_one.Goals as goal
 pub invariant_of-self-2 : goal.invariant_of-self-2
 invariant_of-self-2 c =
     let f = c.args.self.now in
-    let g = c.clear.ensures in (
-      g.stays.ready,
-      (
-        reach _ _ _ _ start_at_one g.stays.room
-            (begun_at (Some 1) _ _ g.book g.held ∙ ap (λ o. moved o (model f)) (sym (starts_at_one (slots_of f) (book_in f.runner) (held_in f.runner) f.state c.requires))) f.reached,
-        tt,
-      ),
-    )
+    let g = c.clear.ensures in
+    record {
+      ready = g.stays.ready;
+      reached =
+          reach _ _ _ _ start_at_one g.stays.room
+          (begun_at (Some 1) _ _ g.book g.held ∙ ap (λ o. moved o (model f)) (sym (starts_at_one (slots_of f) (book_in f.runner) (held_in f.runner) f.state c.requires))) f.reached;
+    }
 
 pub returns : goal.returns
 returns c =

@@ -11,14 +11,13 @@ use Rattle.follower.proofs.follower.Follower.start_by_snapshot.Goals as goal
 pub invariant_of-self-2 : goal.invariant_of-self-2
 invariant_of-self-2 c =
     let f = c.args.self.now in
-    let g = c.clear.ensures in (
-      g.stays.ready,
-      (
-        reach _ _ _ _ start_by_snapshot g.stays.room
-            (begun_at None _ _ g.book g.held ∙ ap (λ o. moved o (model f)) (sym (starts_by_snapshot (slots_of f) (book_in f.runner) (held_in f.runner) f.state c.requires))) f.reached,
-        tt,
-      ),
-    )
+    let g = c.clear.ensures in
+    record {
+      ready = g.stays.ready;
+      reached =
+          reach _ _ _ _ start_by_snapshot g.stays.room
+          (begun_at None _ _ g.book g.held ∙ ap (λ o. moved o (model f)) (sym (starts_by_snapshot (slots_of f) (book_in f.runner) (held_in f.runner) f.state c.requires))) f.reached;
+    }
 
 pub returns : goal.returns
 returns c =

@@ -11,7 +11,7 @@ use Rattle.follower.proofs.follower.Follower.stop.Goals as goal
 pub invariant_of-self : goal.invariant_of-self
 invariant_of-self c =
     let f = c.args.self.now in
-    (f.ready, (reach _ _ _ _ stop refl (ap (λ o. moved o (model f)) (sym (stops (slots_of f) (book_in f.runner) (held_in f.runner) f.state c.requires))) f.reached, tt))
+    record { ready = f.ready; reached = reach _ _ _ _ stop refl (ap (λ o. moved o (model f)) (sym (stops (slots_of f) (book_in f.runner) (held_in f.runner) f.state c.requires))) f.reached }
 
 pub returns : goal.returns
 returns c =
