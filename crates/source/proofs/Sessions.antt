@@ -1,5 +1,5 @@
 -- The test of two sessions' names decides whether they are the same.
-use Rattle.std.proofs.Common.{◌≡◌, true, Decides, ap}
+use Rattle.std.proofs.Common.{◌≡◌, Decides, ap}
 use Rattle.std.proofs.lemmas.Slice.Eq.{bytes_eq-Decides}
 use Rattle.wire.specs.declared.session.Session.{Session}
 use Rattle.source.specs.Pairs.{same_session}

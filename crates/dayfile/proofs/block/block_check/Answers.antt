@@ -3,11 +3,11 @@ use Rattle.dayfile.specs.Blocks.{weighted}
 use Rattle.dayfile.proofs.Layouts.{weighted_more, term_most, covered_most, check_is}
 use Rattle.dayfile.proofs.block.block_check.Goals as goal
 
-pub overflow-add-sum-in-loop-i : goal.overflow-add-sum-in-loop-i
-overflow-add-sum-in-loop-i c =
+pub overflow_add-sum-in-loop-i : goal.overflow_add-sum-in-loop-i
+overflow_add-sum-in-loop-i c =
     let b = c.args.block.now in
     let i = c.loop-i.i in
-    let byte : get_or b i 0 < 256 = omega (arith, c.type-inv.block i) in
+    let byte : get_or b i 0 < 256 = omega (arith, c.type_inv.block i) in
     let t = term_most b c.min.result i c.from.result c.min.ensures c.loop-i-test.true c.from.ensures byte in
     let m = covered_most b c.min.result i c.min.ensures c.loop-i-test.true in
     omega arith
@@ -16,7 +16,7 @@ pub loop-i-preserved : goal.loop-i-preserved
 loop-i-preserved c =
     let b = c.args.block.now in
     let i = c.loop-i.i in
-    let byte : get_or b i 0 < 256 = omega (arith, c.type-inv.block i) in
+    let byte : get_or b i 0 < 256 = omega (arith, c.type_inv.block i) in
     let t = term_most b c.min.result i c.from.result c.min.ensures c.loop-i-test.true c.from.ensures byte in
     let w = weighted_more (take (c.min.result - 0) b) i c.loop-i.sum c.loop-i-test.true in
     let f = ap (λ x. c.loop-i.sum + (i + 1) * x + weighted (i + 1 + 1) (drop (i + 1) (take (c.min.result - 0) b))) c.from.ensures in

@@ -10,7 +10,7 @@ returns-in-Some c =
 pub loop-at-preserved : goal.loop-at-preserved
 loop-at-preserved c =
     let f = from_block c.args.bytes.now c.loop-at.at (omega arith) in
-    sym (first_at _ _ _ _ f c.in-default.ensures) ∙ c.loop-at.invariant
+    sym (first_at _ _ _ _ f c.in_default.ensures) ∙ c.loop-at.invariant
 
 pub returns : goal.returns
 returns c = sym (first_none _ (from_end c.args.bytes.now c.loop-at.at (omega arith))) ∙ c.loop-at.invariant

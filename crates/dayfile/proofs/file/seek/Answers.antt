@@ -10,7 +10,7 @@ returns-in-Held c =
     let n = c.args.number in
     record {
       leads = c.loop-at.invariant.1;
-      value = sym (held_here c.args.session _ _ _ _ n _ f c.block-at.ensures h.0) ∙ c.loop-at.invariant.1 n (omega arith) c.loop-at.invariant.0;
+      value = sym (held_here c.args.session _ _ _ _ n _ f c.block_at.ensures h.0) ∙ c.loop-at.invariant.1 n (omega arith) c.loop-at.invariant.0;
       sized = h.1;
     }
 
@@ -23,7 +23,7 @@ loop-at-preserved c =
       λ n low high.
           let high1 : n ≤ c.loop-at.high = omega arith in
           let high2 : n ≤ c.in-Free.last = omega arith in
-          sym (held_later c.args.session _ _ _ _ n f c.block-at.ensures (h.1 n low high2)) ∙ c.loop-at.invariant.1 n low high1,
+          sym (held_later c.args.session _ _ _ _ n f c.block_at.ensures (h.1 n low high2)) ∙ c.loop-at.invariant.1 n low high1,
     )
 
 pub returns : goal.returns
@@ -33,7 +33,7 @@ returns c =
     let n = c.args.number in
     let none : (k : ℕ) → in_blocks s (drop c.loop-at.at (blocks b)) k ≡ None = λ k. in_blocks_none s _ k (from_end b c.loop-at.at (omega arith)) in
     record {
-      leads = λ k low high. in_blocks_none s _ k (from_end b c.block-count-count.result (omega arith)) ∙ sym (none k) ∙ c.loop-at.invariant.1 k low high;
+      leads = λ k low high. in_blocks_none s _ k (from_end b c.block_count-count.result (omega arith)) ∙ sym (none k) ∙ c.loop-at.invariant.1 k low high;
       value = sym (none n) ∙ c.loop-at.invariant.1 n (omega arith) c.loop-at.invariant.0;
       sized = tt;
     }

@@ -3,9 +3,9 @@ use Rattle.dayfile.specs.declared.file.Cursor.{Cursor}
 use Rattle.dayfile.specs.Blocks.{filed, day_file, in_blocks, blocks}
 use Rattle.dayfile.proofs.file.DayFile.open.Goals as goal
 
-pub returns-in-default : goal.returns-in-default
+pub returns-in_default : goal.returns-in_default
 unfolding day_file
-returns-in-default c = record { means = ap (λ o. filed o c.args.bytes.now) c.in-default.ensures; agrees = tt }
+returns-in_default c = record { means = ap (λ o. filed o c.args.bytes.now) c.in_default.ensures; agrees = tt }
 
 pub returns : goal.returns
 unfolding day_file
