@@ -171,7 +171,7 @@ fn mend<S: Source + Drop>(
     follower: &mut Follower<'_, '_>,
     rows: &mut [BookRow],
 ) -> io::Result<()>
-    requires { agrees source }
+    requires { S.agrees source }
 {
     let outcome = follower.call(&mut Call::Repair(&mut source, budget), rows);
     show::outcome(rt, outcome, "", rows)

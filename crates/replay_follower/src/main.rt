@@ -20,7 +20,7 @@ use script::{Line, Script, Slots};
 use std::io;
 
 fn main(rt: HostRuntime) -> io::Result<()> {
-    let mut script = Script::new(&rt);
+    let mut script = Script::new(&rt)?;
     let (connection, met) = before_slots(&rt, &mut script);
     let (connection, result) = match met {
         Ok(None) => (connection, Ok(())),

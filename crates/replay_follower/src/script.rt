@@ -60,11 +60,11 @@ pub(crate) enum Bare {
 }
 
 impl Script {
-    pub(crate) fn new(rt: &HostRuntime) -> Script {
-        Script {
-            input: BufReader::new(rt.stdin()),
+    pub(crate) fn new(rt: &HostRuntime) -> io::Result<Script> {
+        Ok(Script {
+            input: BufReader::new(rt.alloc(), rt.stdin())?,
             line: Vec::new(rt.alloc()),
-        }
+        })
     }
 
     // The next line, or none at the end of the script.
