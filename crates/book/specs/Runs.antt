@@ -1,6 +1,6 @@
 -- Whole runs from the empty book, and what holds after each.
 use Rattle.std.specs.Prelude.{◌≡◌, ℕ, ◌<◌, ◌≤◌, true, List, [], ◌∷◌, length, is_some, Some, None, Ok, Err, Option, Result, ◌≢◌, slice_index, slice_index_or}
-use Rattle.std.specs.List.{AllByRecursion as All}
+use Rattle.std.specs.List.{AllByRecursion}
 use Rattle.codes.specs.declared.cause.Cause.{Cause}
 use Rattle.wire.specs.Numbers.{most32, most_price}
 use Rattle.wire.specs.declared.order.OrderRow.{OrderRow}
@@ -33,12 +33,12 @@ reached_there slots ms = run_there slots ms empty
 -- what holds of every book that a run reaches
 pub record Sound (slots : Slots) (book : Plain) : Type 0 where
   -- no live order has zero shares, or a price outside the limit
-  pub some_shares : All (λ order. (1 ≤ order.shares) × (order.shares ≤ most32)) book.orders
-  pub priced : All (λ order. (1 ≤ order.price) × (order.price ≤ most_price)) book.orders
+  pub some_shares : AllByRecursion (λ order. (1 ≤ order.shares) × (order.shares ≤ most32)) book.orders
+  pub priced : AllByRecursion (λ order. (1 ≤ order.price) × (order.price ≤ most_price)) book.orders
   -- references are distinct, and the smallest comes first
   pub ascending : (i j : ℕ) (d : OrderRow) → i < j → j < length book.orders → (slice_index_or book.orders i d).reference < (slice_index_or book.orders j d).reference
   -- every live order's symbol has a stock
-  pub listed : All (λ order. is_some (stock_of order.symbol book) ≡ true) book.orders
+  pub listed : AllByRecursion (λ order. is_some (stock_of order.symbol book) ≡ true) book.orders
   -- the tables never exceed their slots
   pub stocks_fit : length book.stocks ≤ slots.for_stocks
   pub orders_fit : length book.orders ≤ slots.for_orders
