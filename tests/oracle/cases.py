@@ -1,5 +1,5 @@
 #!/usr/bin/env python3
-"""Makes session scripts from a seed, for the comparison of `replay` with the oracle.
+"""Makes session scripts from a seed, for the comparison of `replay_follower` with the oracle.
 
     cases.py --seed 7 --count 1000 --out DIR    writes case-000000.txt and on
     cases.py --seed 7 --one 12                  prints one script

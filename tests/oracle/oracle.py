@@ -1,7 +1,7 @@
 #!/usr/bin/env python3
-"""A second follower, written from docs/RULES.md alone, to compare `replay` with.
+"""A second follower, written from docs/RULES.md alone, to compare `replay_follower` with.
 
-It reads a session script on standard input and prints what `replay` must
+It reads a session script on standard input and prints what `replay_follower` must
 print for it. A script is a call to a line, all of them made on one follower.
 A line ends with a line feed, or a carriage return and a line feed, and is
 UTF-8. Words stand apart by exactly one space; numbers are decimal, and fit in
