@@ -189,6 +189,15 @@ def source(rng, day, span, damage):
     return "file " + hexed(days.day_file_of(rng, session, low, messages))
 
 
+def honest_source(rng, day):
+    """A source that holds all of the day and nothing else, as words."""
+    if rng.random() < 0.5:
+        return "session " + hexed(days.recovery(rng, day.session, day.first, day.messages))
+    blocks = days.blocks_of(rng, day.session, day.first, day.messages)
+    rng.shuffle(blocks)
+    return "file " + hexed(b"".join(blocks))
+
+
 def some_span(rng, day):
     low = rng.randint(day.first, day.last())
     return rng.choice([
@@ -683,7 +692,7 @@ def join(writer, day, packets, number):
             writer.packet(days.data_packet(*packets[at]))
     writer.packet(days.heartbeat(day.last() + 1, day.session))
     writer.line("lamp")
-    writer.line("repair 1000 " + source(rng, day, (day.first, day.last()), 0))
+    writer.line("repair 1000 " + honest_source(rng, day))
     writer.line("repair 1000 session " + hexed(days.recovery(rng, day.session, day.first, day.messages)))
 
 
