@@ -6,14 +6,14 @@
 Run once, after the kit's port.py. A name of specs/ or proofs/ that is joined by dashes becomes snake case
 (`event-of` to `event_of`); one that begins with a capital, a fact or a type, becomes camel case (`Has-stock` to
 `HasStock`). Names that Rattle makes (goals, steps of the code) and names of the library keep their dashes.
-It prints what it renames, and stops where a new name falls together with another.
+It prints what it renames, and changes nothing where a new name falls together with another definition or with a name
+that the library has.
 """
 import collections
 import os
 import re
 import sys
 
-WORD = r"[^\s(){}\[\].,;:«»\"'|]+(?:'+)?"
 MADE = re.compile(r"(?:goal|need|given|Goals|Given|Needs)\.([^\s(){}]+)")
 
 
@@ -100,13 +100,18 @@ def main():
     news = collections.defaultdict(list)
     for old, new in turn.items():
         news[new].append(old)
+    together = False
     for new, olds in sorted(news.items()):
-        if len(olds) > 1 or new in own:
-            print("falls together: %s and %s" % (" ".join(sorted(olds)), new if new in own else ""))
-        if new in library:
-            print("falls together with the library's: " + new)
+        if len(olds) > 1 or new in own or new in library:
+            print("falls together: %s, as %s" % (" ".join(sorted(olds)), new))
+            together = True
         if new in rust:
             print("also a word of src: %s (%d)" % (new, rust[new]))
+    if together:
+        sys.exit(1)
+    if not turn:
+        print("0 names, 0 files")
+        return
     token = re.compile(r"(?<![^\s(){}\[\].,;:«»λ\"`])(" + "|".join(
         re.escape(n) for n in sorted(turn, key=len, reverse=True)) + r")(?![^\s(){}\[\].,;:«»\"`])")
     count = 0
