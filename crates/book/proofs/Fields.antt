@@ -1,5 +1,5 @@
 -- An order that a message adds is within the limits.
-use Rattle.std.proofs.Common.{◌≡◌, ℕ, Bool, true, false, cond, ◌&&◌, ◌||◌, eqb, ltb, leb, List, length, get_or, Some, None, Ok, Err, Option, Result, sym, refl, ap, ◌∙◌, subst, arith}
+use Rattle.std.proofs.Common.{◌≡◌, ℕ, Bool, true, false, cond, ◌&&◌, ◌||◌, eqb, ltb, leb, List, length, get_or, Some, None, Ok, Err, Option, Result, sym, refl, ap, ◌∙◌, subst}
 use Rattle.codes.specs.declared.cause.Cause.{Cause}
 use Rattle.codes.specs.declared.cause.Cause.TheVariants.{Length, Field, InSnapshot}
 use Rattle.codes.specs.declared.side.Side.{Side}
@@ -9,18 +9,13 @@ use Rattle.wire.specs.Messages.{Said, second, event, status, add, execute, cance
 use Rattle.wire.specs.Answers.{through}
 use Rattle.wire.specs.Numbers.{be32, be64, most32}
 use Rattle.wire.specs.declared.order.OrderRow.{OrderRow}
-use Rattle.wire.specs.declared.symbol.Symbol.{Symbol}
+use Rattle.wire.specs.Names.{Symbol}
 use Rattle.book.specs.Keys.{within}
 
 -- what a message says is in order: an order that it adds is within the limits
 abbrev pub Fine : Said → Type 0
-Fine second = Unit {0}
-Fine (event code) = Unit {0}
-Fine (status symbol state) = Unit {0}
 Fine (add order) = within order ≡ true
-Fine (execute reference n) = Unit {0}
-Fine (cancel reference n) = Unit {0}
-Fine other = Unit {0}
+Fine what = Unit {0}
 
 record Read (r : Result Said Cause) : Type 0 where
   fine : (what : Said) → r ≡ Ok what → Fine what
@@ -29,13 +24,13 @@ record Row (o : Option OrderRow) : Type 0 where
   fine : (order : OrderRow) → o ≡ Some order → within order ≡ true
 
 no_cause : (cause : Cause) → Read (Err cause)
-no_cause cause = record { fine = λ what e. let z : ◌≡◌ {A = ℕ} 0 1 = cc in absurd (omega arith) }
+no_cause cause = record { fine = λ what e. absurd cc }
 
 reads : (what : Said) → Fine what → Read (Ok what)
 reads what p = record { fine = λ other_one e. let s : what ≡ other_one = cc in subst Fine s p }
 
 no_row : Row None
-no_row = record { fine = λ order e. let z : ◌≡◌ {A = ℕ} 0 1 = cc in absurd (omega arith) }
+no_row = record { fine = λ order e. absurd cc }
 
 one_of : (b : Bool) (x y : Result Said Cause) → Read x → Read y → Read (cond b x y)
 one_of true x y p q = p
@@ -90,10 +85,10 @@ record ReadThere (r : Result Told Cause) : Type 0 where
   fine : (what : Said) → r ≡ Ok (said what) → Fine what
 
 no_cause_there : (cause : Cause) → ReadThere (Err cause)
-no_cause_there cause = record { fine = λ what e. let z : ◌≡◌ {A = ℕ} 0 1 = cc in absurd (omega arith) }
+no_cause_there cause = record { fine = λ what e. absurd cc }
 
 end_there : (next : ℕ) → ReadThere (Ok (end next))
-end_there next = record { fine = λ what e. let z : ◌≡◌ {A = ℕ} 0 1 = cc in absurd (omega arith) }
+end_there next = record { fine = λ what e. absurd cc }
 
 one_there : (b : Bool) (x y : Result Told Cause) → ReadThere x → ReadThere y → ReadThere (cond b x y)
 one_there true x y p q = p

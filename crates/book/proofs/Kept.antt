@@ -1,5 +1,5 @@
 -- What every message keeps of a book.
-use Rattle.std.proofs.Common.{◌≡◌, ℕ, ◌+◌, ◌<◌, ◌≤◌, Bool, true, false, cond, eqb, ltb, List, [], ◌∷◌, length, is_some, Some, None, Ok, Err, Option, Ordering, Less, Equal, Greater, refl, ap, ◌∙◌, subst, arith}
+use Rattle.std.proofs.Common.{◌≡◌, ℕ, ◌+◌, ◌<◌, ◌≤◌, Bool, true, false, cond, eqb, ltb, length, is_some, Some, None, Ok, Err, Option, Ordering, Less, Equal, Greater, refl, ap, ◌∙◌, subst, arith}
 use Rattle.std.specs.Cmp.{nat_cmp_total}
 use Rattle.std.specs.List.{AllByRecursion as All}
 use Rattle.std.proofs.ByRecursion.{All-weaker}
@@ -8,17 +8,17 @@ use Rattle.std.proofs.lemmas.Bool.Decides.{nat_tests}
 use Rattle.codes.specs.declared.cause.Cause.TheVariants.{LiveReference, NoStock, TableFull, TooManyShares}
 use Rattle.codes.specs.declared.status.Status.{Status}
 use Rattle.codes.specs.declared.status.Status.TheVariants as state
-use Rattle.table.specs.Rows.{pick, found, placed, without, ordered}
-use Rattle.table.proofs.Laws.{found_placed, found_placed_other, length_placed, length_without, ordered_placed, ordered_without, total_lawful}
+use Rattle.table.specs.Rows.{found, placed, ordered}
+use Rattle.table.proofs.Laws.{found_placed, found_placed_other, length_placed, length_without, ordered_placed, ordered_without}
 use Rattle.wire.specs.Messages.{Said, second, event, status, add, execute, cancel, other}
 use Rattle.wire.specs.declared.order.OrderRow.{OrderRow}
-use Rattle.wire.specs.declared.symbol.Symbol.{Symbol}
+use Rattle.wire.specs.Names.{Symbol}
 use Rattle.book.specs.declared.rows.Stock.{Stock}
 use Rattle.book.specs.Keys.{reference_of, name_of, by_number, by_name, within, all_within}
 use Rattle.book.specs.Plain.{Plain, Slots, empty, stock_of, order_of, with_event, with_stock, with_order, without_order, told, added, less, reduced, done}
 use Rattle.book.specs.Stocks.{unheard, with_state}
 use Rattle.book.proofs.Fields.{Fine}
-use Rattle.book.proofs.Live.{found_again, found_within, placed_within, without_within}
+use Rattle.book.proofs.Live.{all_found, all_placed, all_without, found_again, found_within, placed_within, without_within}
 use Rattle.std.specs.Cmp.Lexicographic.{lists_total}
 
 -- the order's symbol has a stock
@@ -35,48 +35,17 @@ pub record Good (slots : Slots) (book : Plain) : Type 0 where
 pub good_empty : (slots : Slots) → Good slots empty
 good_empty slots = record { limits = refl; rising = refl; listed = tt; stocks_fit = omega arith; orders_fit = omega arith }
 
--- what holds of each row
-all_placed : (P : OrderRow → Type 0) (x : OrderRow) (xs : List OrderRow) → P x → All P xs → All P (placed reference_of by_number x xs)
-unfolding placed
-all_placed P x [] p a = (p, tt)
-all_placed P x (y ∷ ys) p a = go (all_placed P x ys p a.1) (by_number y.reference x.reference)
-  where
-    go : All P (placed reference_of by_number x ys) → (r : Ordering) → All P (pick r (y ∷ placed reference_of by_number x ys) (x ∷ ys) (x ∷ y ∷ ys))
-    go ih Less = (a.0, ih)
-    go ih Equal = (p, a.1)
-    go ih Greater = (p, a)
-
-all_without : (P : OrderRow → Type 0) (q : ℕ) (xs : List OrderRow) → All P xs → All P (without reference_of by_number q xs)
-unfolding without
-all_without P q [] a = tt
-all_without P q (y ∷ ys) a = go (all_without P q ys a.1) (by_number y.reference q)
-  where
-    go : All P (without reference_of by_number q ys) → (r : Ordering) → All P (pick r (y ∷ without reference_of by_number q ys) ys (y ∷ ys))
-    go ih Less = (a.0, ih)
-    go ih Equal = a.1
-    go ih Greater = a
-
-all_found : (P : OrderRow → Type 0) (q : ℕ) (xs : List OrderRow) (x : OrderRow) → All P xs → found reference_of by_number q xs ≡ Some x → P x
-unfolding found
-all_found P q [] x a f = let z : ◌≡◌ {A = ℕ} 0 1 = cc in absurd (omega arith)
-all_found P q (y ∷ ys) x a f = go (all_found P q ys x a.1) (by_number y.reference q) refl
-  where
-    go : (found reference_of by_number q ys ≡ Some x → P x) → (r : Ordering) → by_number y.reference q ≡ r → P x
-    go ih Less p = ih (rw p at f)
-    go ih Equal p = let e : Some y ≡ Some x = rw p at f in let s : y ≡ x = cc in subst P s a.0
-    go ih Greater p = let e : None ≡ Some x = rw p at f in let z : ◌≡◌ {A = ℕ} 0 1 = cc in absurd (omega arith)
-
 -- a stock that is set takes no other away
 still_listed : (book : Plain) (stock : Stock) (order : OrderRow) → HasStock book order → HasStock (with_stock stock book) order
 still_listed book stock order h = go (by_name (name_of stock) order.symbol.bytes) refl
   where
     other_one : (by_name (name_of stock) order.symbol.bytes ≡ Equal → ⊥) → HasStock (with_stock stock book) order
-    other_one n = ap is_some (found_placed_other name_of by_name (total_lawful (lists_total nat_cmp_total)) stock book.stocks order.symbol.bytes n) ∙ h
+    other_one n = ap is_some (found_placed_other name_of by_name (lists_total nat_cmp_total) stock book.stocks order.symbol.bytes n) ∙ h
 
     go : (r : Ordering) → by_name (name_of stock) order.symbol.bytes ≡ r → HasStock (with_stock stock book) order
-    go Equal p = ap is_some (found_placed name_of by_name (total_lawful (lists_total nat_cmp_total)) stock book.stocks order.symbol.bytes p)
-    go Less p = other_one (λ q. let z : ◌≡◌ {A = ℕ} 0 1 = cc in omega arith)
-    go Greater p = other_one (λ q. let z : ◌≡◌ {A = ℕ} 0 1 = cc in omega arith)
+    go Equal p = ap is_some (found_placed name_of by_name (lists_total nat_cmp_total) stock book.stocks order.symbol.bytes p)
+    go Less p = other_one (λ q. cc)
+    go Greater p = other_one (λ q. cc)
 
 module _ (slots : Slots) (book : Plain) (good : Good slots book) where
   good_stock : (stock : Stock) → length (placed name_of by_name stock book.stocks) ≤ slots.for_stocks → Good slots (with_stock stock book)
@@ -93,7 +62,7 @@ module _ (slots : Slots) (book : Plain) (good : Good slots book) where
   good_order order w s l =
       record {
         limits = placed_within order book.orders w good.limits;
-        rising = ordered_placed reference_of by_number (total_lawful nat_cmp_total) order book.orders good.rising;
+        rising = ordered_placed reference_of by_number nat_cmp_total order book.orders good.rising;
         listed = all_placed (HasStock book) order book.orders s good.listed;
         stocks_fit = good.stocks_fit;
         orders_fit = l;
@@ -139,10 +108,10 @@ module _ (slots : Slots) (book : Plain) (good : Good slots book) where
           let l : length book.stocks < slots.for_stocks = ltb-true (length book.stocks) slots.for_stocks p in
           let g = grown new in
           subst (Good slots) is (good_stock new (omega arith))
-      go false p h = let z : ◌≡◌ {A = ℕ} 0 1 = cc in absurd (omega arith)
+      go false p h = absurd cc
   good_told symbol s (Some stock) next f e =
       let is : with_stock (with_state s stock) book ≡ next = cc in
-      let again = found_again name_of by_name (total_lawful (lists_total nat_cmp_total)) symbol.bytes book.stocks stock f in
+      let again = found_again name_of by_name (lists_total nat_cmp_total) symbol.bytes book.stocks stock f in
       let there : is_some (found name_of by_name (name_of (with_state s stock)) book.stocks) ≡ true = ap (λ k. is_some (found name_of by_name k book.stocks)) (same_name s stock) ∙ ap is_some again in
       let l : length (placed name_of by_name (with_state s stock) book.stocks) ≡ length book.stocks + 0 =
       length_placed name_of by_name (with_state s stock) book.stocks ∙ ap (λ b. length book.stocks + cond b 0 1) there in
@@ -154,9 +123,9 @@ module _ (slots : Slots) (book : Plain) (good : Good slots book) where
     where
       go : (live known free : Bool) → is_some (stock_of order.symbol book) ≡ known → ltb (length book.orders) slots.for_orders ≡ free
           → cond live (Err LiveReference) (cond known (cond free (Ok (with_order order book)) (Err TableFull)) (Err NoStock)) ≡ Ok next → Good slots next
-      go true known free p q h = let z : ◌≡◌ {A = ℕ} 0 1 = cc in absurd (omega arith)
-      go false false free p q h = let z : ◌≡◌ {A = ℕ} 0 1 = cc in absurd (omega arith)
-      go false true false p q h = let z : ◌≡◌ {A = ℕ} 0 1 = cc in absurd (omega arith)
+      go true known free p q h = absurd cc
+      go false false free p q h = absurd cc
+      go false true false p q h = absurd cc
       go false true true p q h =
           let is : with_order order book ≡ next = cc in
           let l : length book.orders < slots.for_orders = ltb-true (length book.orders) slots.for_orders q in
@@ -168,12 +137,12 @@ module _ (slots : Slots) (book : Plain) (good : Good slots book) where
   less_within n order w l = grind (arith, nat_tests)
 
   good_reduced : (q n : ℕ) (o : Option OrderRow) (next : Plain) → order_of q book ≡ o → reduced book n o ≡ Ok next → Good slots next
-  good_reduced q n None next f e = let z : ◌≡◌ {A = ℕ} 0 1 = cc in absurd (omega arith)
+  good_reduced q n None next f e = absurd cc
   good_reduced q n (Some order) next f e = go (ltb order.shares n) (eqb order.shares n) refl refl e
     where
       smaller : n < order.shares → Good slots (with_order (less n order) book)
       smaller l =
-          let again = found_again reference_of by_number (total_lawful nat_cmp_total) q book.orders order f in
+          let again = found_again reference_of by_number nat_cmp_total q book.orders order f in
           let long : length (placed reference_of by_number (less n order) book.orders) ≡ length book.orders + 0 =
           length_placed reference_of by_number (less n order) book.orders ∙ ap (λ b. length book.orders + cond b 0 1) (ap is_some again) in
           let g = good.orders_fit in
@@ -181,7 +150,7 @@ module _ (slots : Slots) (book : Plain) (good : Good slots book) where
 
       go : (many all : Bool) → ltb order.shares n ≡ many → eqb order.shares n ≡ all
           → cond many (Err TooManyShares) (Ok (cond all (without_order order.reference book) (with_order (less n order) book))) ≡ Ok next → Good slots next
-      go true all p r h = let z : ◌≡◌ {A = ℕ} 0 1 = cc in absurd (omega arith)
+      go true all p r h = absurd cc
       go false true p r h = let is : without_order order.reference book ≡ next = cc in subst (Good slots) is (good_without order.reference)
       go false false p r h =
           let is : with_order (less n order) book ≡ next = cc in

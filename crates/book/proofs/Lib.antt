@@ -1,6 +1,5 @@
 mod Fields
 mod Kept
-pub mod Live
-pub mod Runs
-pub mod Shown
+mod Live
+mod Shown
 mod Whole

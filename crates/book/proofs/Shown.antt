@@ -1,76 +1,40 @@
 -- The rows of an answer, order by order.
-use Rattle.std.proofs.Common.{◌≡◌, ℕ, suc, ◌+◌, ◌<◌, ◌≤◌, Bool, true, false, cond, List, [], ◌∷◌, ◌++◌, map, length, get_or, take, drop, set, is_some, Err, Decides, filter, sym, refl, ap, ◌∙◌, append-nil, arith, drop-cons}
-use Rattle.std.specs.Str.{bytes_eq}
-use Rattle.std.proofs.lemmas.List.Elements.{filter-append, filter_more}
-use Rattle.std.proofs.lemmas.Slice.Eq.{bytes_eq-Decides}
-use Rattle.std.proofs.lemmas.List.{length-append, map-append, take-append-drop, set_at, append_assoc}
-use Rattle.std.proofs.lemmas.Bool.{cond-true, cond-false}
-use Rattle.std.proofs.lemmas.Bool.Decides.{Decides-like, same_from_decides}
-use Rattle.codes.specs.declared.refusal.Refusal.TheVariants.{NoStock}
-use Rattle.codes.specs.declared.side.Side.{Side}
+use Rattle.std.proofs.Common.{◌≡◌, ℕ, suc, ◌+◌, ◌<◌, ◌≤◌, List, [], ◌∷◌, ◌++◌, map, length, get_or, take, drop, set, sym, ap, ◌∙◌, arith, drop-cons}
+use Rattle.std.specs.List.{enumerate_from}
+use Rattle.std.proofs.lemmas.List.{append_assoc, length-map, length-take-le, map-append, set_at, take_all, take_more}
+use Rattle.std.proofs.lemmas.List.FromFn.{get_or-enumerate_from, length-enumerate_from}
 use Rattle.wire.specs.declared.order.OrderRow.{OrderRow}
-use Rattle.wire.specs.declared.symbol.Symbol.{Symbol}
 use Rattle.book.specs.declared.rows.BookRow.{BookRow}
-use Rattle.book.specs.Plain.{Plain, stock_of}
-use Rattle.book.specs.Questions.{asked, shown, rows_of, fitting, orders_of}
+use Rattle.book.specs.Questions.{shown}
 
-pub same_symbol : (a b : Symbol) (r : Bool) → Decides r (a ≡ b) → r ≡ bytes_eq a.bytes b.bytes
-same_symbol a b r h =
-    let bytes : Decides (bytes_eq a.bytes b.bytes) (a ≡ b) =
-    Decides-like (bytes_eq a.bytes b.bytes) (λ e. ap (λ (bs : List ℕ). let s : Symbol = record { bytes = bs } in s) e) (λ e. ap (λ (s : Symbol). s.bytes) e) (bytes_eq-Decides a.bytes b.bytes) in
-    same_from_decides r (bytes_eq a.bytes b.bytes) h bytes
+module _ (orders : List OrderRow) where
+  -- the place of an order among those that are numbered
+  pub numbered : (k n : ℕ) (order : OrderRow) → k < length (enumerate_from 0 orders) → ◌≡◌ {A = ℕ × OrderRow} (n, order) (get_or (enumerate_from 0 orders) k (n, order)) → (k < length orders) × (n ≡ k) × (order ≡ get_or orders k order)
+  numbered k n order l e = (inside, ap (λ (p : ℕ × OrderRow). p.0) is, ap (λ (p : ℕ × OrderRow). p.1) is)
+    where
+      inside : k < length orders
+      inside = omega (arith, l, length-enumerate_from 0 orders)
 
-module _ (symbol : Symbol) (side : Side) where
-  pub rows_none : rows_of symbol side [] ≡ []
-  unfolding rows_of
-  rows_none = refl
+      is : ◌≡◌ {A = ℕ × OrderRow} (n, order) (k, get_or orders k order)
+      is = let none : 0 + k ≡ k = omega arith in e ∙ get_or-enumerate_from 0 orders k (n, order) inside ∙ ap (λ (i : ℕ). let p : ℕ × OrderRow = (i, get_or orders k order) in p) none
 
-  rows_append : (xs ys : List OrderRow) → rows_of symbol side (xs ++ ys) ≡ rows_of symbol side xs ++ rows_of symbol side ys
-  unfolding rows_of
-  rows_append xs ys = ap (map shown) (filter-append (asked symbol side) xs ys) ∙ map-append shown (filter (asked symbol side) xs) (filter (asked symbol side) ys)
+  -- the first k of them at the front of lent rows
+  abbrev pub front : List BookRow → ℕ → List BookRow
+  front lent k = map shown (take k orders) ++ drop k lent
 
-  rows_more : (xs : List OrderRow) (i : ℕ) (d : OrderRow) → i < length xs → rows_of symbol side (take (i + 1) xs) ≡ rows_of symbol side (take i xs) ++ map shown (cond (asked symbol side (get_or xs i d)) (get_or xs i d ∷ []) [])
-  unfolding rows_of
-  rows_more xs i d l = ap (map shown) (filter_more (asked symbol side) xs i d l) ∙ map-append shown (filter (asked symbol side) (take i xs)) (cond (asked symbol side (get_or xs i d)) (get_or xs i d ∷ []) [])
+  pub front_more : (lent : List BookRow) (k : ℕ) (order : OrderRow) → k < length orders → length orders ≤ length lent → order ≡ get_or orders k order → set (front lent k) k (shown order) ≡ front lent (k + 1)
+  front_more lent k order l m e =
+      let one : suc k ≡ k + 1 = omega arith in
+      let n : k ≡ length (map shown (take k orders)) = sym (length-map (take k orders) shown ∙ length-take-le k orders (omega arith)) in
+      let more : map shown (take (k + 1) orders) ≡ map shown (take k orders) ++ shown order ∷ [] = ap (map shown) (take_more orders k order l ∙ ap (λ o. take k orders ++ o ∷ []) (sym e)) ∙ map-append shown (take k orders) (order ∷ []) in
+      ap (λ (t : List BookRow). set (map shown (take k orders) ++ t) k (shown order)) (drop-cons lent k (shown order) (omega arith))
+      ∙ set_at (map shown (take k orders)) (get_or lent k (shown order)) (drop (suc k) lent) (shown order) k (sym n)
+      ∙ ap (λ (i : ℕ). map shown (take k orders) ++ shown order ∷ drop i lent) one
+      ∙ sym (append_assoc (map shown (take k orders)) (shown order ∷ []) (drop (k + 1) lent))
+      ∙ ap (λ (t : List BookRow). t ++ drop (k + 1) lent) (sym more)
 
-  pub rows_take : (xs : List OrderRow) (i : ℕ) (d : OrderRow) → i < length xs → asked symbol side (get_or xs i d) ≡ true → rows_of symbol side (take (i + 1) xs) ≡ rows_of symbol side (take i xs) ++ shown (get_or xs i d) ∷ []
-  rows_take xs i d l t = rows_more xs i d l ∙ ap (λ b. rows_of symbol side (take i xs) ++ map shown (cond b (get_or xs i d ∷ []) [])) t
-
-  pub rows_skip : (xs : List OrderRow) (i : ℕ) (d : OrderRow) → i < length xs → asked symbol side (get_or xs i d) ≡ false → rows_of symbol side (take (i + 1) xs) ≡ rows_of symbol side (take i xs)
-  rows_skip xs i d l t = rows_more xs i d l ∙ (ap (λ b. rows_of symbol side (take i xs) ++ map shown (cond b (get_or xs i d ∷ []) [])) t ∙ append-nil (rows_of symbol side (take i xs)))
-
-  pub rows_count : (xs : List OrderRow) (i : ℕ) (d : OrderRow) → i < length xs → asked symbol side (get_or xs i d) ≡ true → length (rows_of symbol side (take (i + 1) xs)) ≡ length (rows_of symbol side (take i xs)) + 1
-  rows_count xs i d l t = ap length (rows_take xs i d l t) ∙ length-append (rows_of symbol side (take i xs)) (shown (get_or xs i d) ∷ [])
-
-  rows_fit : (xs : List OrderRow) (i : ℕ) → length (rows_of symbol side (take i xs)) ≤ length (rows_of symbol side xs)
-  rows_fit xs i =
-      let e = ap (λ (ys : List OrderRow). length (rows_of symbol side ys)) (take-append-drop i xs) in
-      let a = ap length (rows_append (take i xs) (drop i xs)) in
-      let n = length-append (rows_of symbol side (take i xs)) (rows_of symbol side (drop i xs)) in
-      omega arith
-
-  -- one more row fits where all of them do
-  pub rows_room : (xs : List OrderRow) (i : ℕ) (d : OrderRow) → i < length xs → asked symbol side (get_or xs i d) ≡ true → length (rows_of symbol side (take i xs)) < length (rows_of symbol side xs)
-  rows_room xs i d l t = let f = rows_fit xs (i + 1) in let n = rows_count xs i d l t in omega arith
-
--- one more row at the front of lent rows
-put_more : (front lent : List BookRow) (n : ℕ) (row : BookRow) → n ≡ length front → n < length lent → set (front ++ drop n lent) n row ≡ (front ++ row ∷ []) ++ drop (n + 1) lent
-put_more front lent n row e l =
-    let s : suc n ≡ n + 1 = omega arith in
-    ap (λ (t : List BookRow). set (front ++ t) n row) (drop-cons lent n row l)
-    ∙ (set_at front (get_or lent n row) (drop (suc n) lent) row n (sym e)
-    ∙ (ap (λ (k : ℕ). front ++ row ∷ drop k lent) s
-    ∙ sym (append_assoc front (row ∷ []) (drop (n + 1) lent))))
-
-pub shown_more : (front front' lent rows rows' : List BookRow) (n n' : ℕ) (row : BookRow) → n ≡ length front → n < length lent → rows ≡ front ++ drop n lent → front' ≡ front ++ row ∷ [] → n' ≡ n + 1 → rows' ≡ set rows n row → rows' ≡ front' ++ drop n' lent
-shown_more front front' lent rows rows' n n' row e l h f k s = let put = put_more front lent n row e l in cc
-
--- the answer where the stock is there, and where it is not
-module _ (book : Plain) (symbol : Symbol) (side : Side) (n : ℕ) where
-  pub orders_known : is_some (stock_of symbol book) ≡ true → orders_of book symbol side n ≡ fitting n (rows_of symbol side book.orders)
-  unfolding orders_of
-  orders_known h = cond-true _ _ _ h
-
-  pub orders_unknown : is_some (stock_of symbol book) ≡ false → orders_of book symbol side n ≡ Err NoStock
-  unfolding orders_of
-  orders_unknown h = cond-false _ _ _ h
+  pub front_all : (lent : List BookRow) (k : ℕ) → k ≡ length (enumerate_from 0 orders) → front lent k ≡ map shown orders ++ drop (length (map shown orders)) lent
+  front_all lent k e =
+      let n : k ≡ length orders = e ∙ length-enumerate_from 0 orders in
+      ap (λ (t : List OrderRow). map shown t ++ drop k lent) (take_all k orders (omega arith))
+      ∙ ap (λ (i : ℕ). map shown orders ++ drop i lent) (n ∙ sym (length-map orders shown))

@@ -19,7 +19,7 @@ abbrev pub name_of : Stock → List ℕ
 name_of stock = stock.symbol.bytes
 
 abbrev pub by_name : List ℕ → List ℕ → Ordering
-by_name = (slice_cmp nat_cmp)
+by_name = slice_cmp nat_cmp
 
 -- a reference of 4 bytes, some shares, a price above 0 and within the limit of the house
 abbrev pub within : OrderRow → Bool

@@ -4,10 +4,11 @@ use Rattle.codes.specs.declared.cause.Cause.{Cause}
 use Rattle.codes.specs.declared.cause.Cause.TheVariants.{LiveReference, NoStock, NoOrder, TooManyShares, TableFull}
 use Rattle.codes.specs.declared.event.EventCode.{EventCode}
 use Rattle.codes.specs.declared.status.Status.{Status}
+use Rattle.wire.specs.Answers.{through}
 use Rattle.wire.specs.Messages.{Said, Told, feed_message, snapshot_message}
 use Rattle.wire.specs.Messages as wire
 use Rattle.wire.specs.declared.order.OrderRow.{OrderRow}
-use Rattle.wire.specs.declared.symbol.Symbol.{Symbol}
+use Rattle.wire.specs.Names.{Symbol}
 use Rattle.table.specs.Rows.{found, placed, without}
 use Rattle.book.specs.declared.rows.Stock.{Stock}
 use Rattle.book.specs.Keys.{reference_of, name_of, by_number, by_name}
@@ -87,26 +88,25 @@ done slots book (wire.execute reference n) = reduced book n (order_of reference 
 done slots book (wire.cancel reference n) = reduced book n (order_of reference book)
 done slots book wire.other = Ok book
 
--- the bytes of one message, read and done
-abbrev pub done_if_read : Slots → Plain → Result Said Cause → Result Plain Cause
-done_if_read slots book (Ok said) = done slots book said
-done_if_read slots book (Err cause) = Err cause
+-- a run goes on from what is answered until a cause stops it
+abbrev pub and_then : {X Y : Type 0} → Result X Cause → (X → Result Y Cause) → Result Y Cause
+and_then (Ok x) next = next x
+and_then (Err cause) next = Err cause
 
+-- the bytes of one message, read and done
 unfoldable pub ran : Slots → Plain → List ℕ → Result Plain Cause
-ran slots book message = done_if_read slots book (feed_message message)
+ran slots book message = and_then (feed_message message) (done slots book)
 
 -- in a snapshot a message may be the End, which tells the next number
 abbrev pub going : Result Plain Cause → Result (Option ℕ × Plain) Cause
-going (Ok book) = Ok (None, book)
-going (Err cause) = Err cause
+going = through (λ book. (None, book))
 
 abbrev pub done_there : Slots → Plain → Told → Result (Option ℕ × Plain) Cause
 done_there slots book (wire.said said) = going (done slots book said)
 done_there slots book (wire.end next) = Ok (Some next, book)
 
 abbrev pub done_there_if_read : Slots → Plain → Result Told Cause → Result (Option ℕ × Plain) Cause
-done_there_if_read slots book (Ok told) = done_there slots book told
-done_there_if_read slots book (Err cause) = Err cause
+done_there_if_read slots book told = and_then told (done_there slots book)
 
 unfoldable pub ran_there : Slots → Plain → List ℕ → Result (Option ℕ × Plain) Cause
 ran_there slots book message = done_there_if_read slots book (snapshot_message message)

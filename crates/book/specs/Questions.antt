@@ -9,7 +9,7 @@ use Rattle.codes.specs.declared.side.Side.{Side}
 use Rattle.codes.specs.declared.side.Side.TheVariants.{Buy, Sell}
 use Rattle.codes.specs.declared.trading.Trading.{Trading}
 use Rattle.wire.specs.declared.order.OrderRow.{OrderRow}
-use Rattle.wire.specs.declared.symbol.Symbol.{Symbol}
+use Rattle.wire.specs.Names.{Symbol}
 use Rattle.book.specs.declared.rows.BookRow.{BookRow}
 use Rattle.book.specs.declared.rows.Stock.{Stock}
 use Rattle.book.specs.Plain.{Plain, stock_of}

@@ -1,16 +1,13 @@
 -- Whole runs from the empty book, and what holds after each.
-use Rattle.std.specs.Prelude.{◌≡◌, ℕ, ◌<◌, ◌≤◌, true, List, [], ◌∷◌, length, is_some, Some, None, Ok, Err, Option, Result, ◌≢◌, slice_index, slice_index_or}
+use Rattle.std.specs.Prelude.{◌≡◌, ℕ, ◌<◌, ◌≤◌, true, List, [], ◌∷◌, length, is_some, Some, None, Ok, Option, Result, ◌≢◌, slice_index, slice_index_or}
 use Rattle.std.specs.List.{AllByRecursion}
 use Rattle.codes.specs.declared.cause.Cause.{Cause}
 use Rattle.wire.specs.Numbers.{most32, most_price}
 use Rattle.wire.specs.declared.order.OrderRow.{OrderRow}
+pub use Rattle.book.specs.Plain.{and_then}
 use Rattle.book.specs.Plain.{Plain, Slots, empty, stock_of, ran, ran_there}
 
 -- a run goes on from a book until a cause stops it
-abbrev pub and_then : {X Y : Type 0} → Result X Cause → (X → Result Y Cause) → Result Y Cause
-and_then (Ok x) next = next x
-and_then (Err cause) next = Err cause
-
 unfoldable pub run_on : Slots → List (List ℕ) → Plain → Result Plain Cause
 run_on slots [] book = Ok book
 run_on slots (m ∷ ms) book = and_then (ran slots book m) (run_on slots ms)

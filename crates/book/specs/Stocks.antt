@@ -2,7 +2,7 @@
 use Rattle.std.specs.Prelude.{Some, None}
 use Rattle.codes.specs.declared.status.Status.{Status}
 use Rattle.codes.specs.declared.status.Status.TheVariants as status
-use Rattle.wire.specs.declared.symbol.Symbol.{Symbol}
+use Rattle.wire.specs.Names.{Symbol}
 use Rattle.book.specs.declared.rows.Stock.{Stock}
 
 -- a new symbol has both states untold

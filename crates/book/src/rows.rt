@@ -1,13 +1,10 @@
 // The rows of the two tables, and the row of an answer.
 ghost use Rattle.std.specs.Prelude.{◌≡◌};
-ghost use Rattle.book.specs.Keys.{reference_of, name_of, by_number, by_name};
+ghost use Rattle.book.specs.Keys.{reference_of, name_of};
+ghost use Rattle.book.specs.Questions.{shown};
 ghost use Rattle.book.specs.Stocks.{unheard, with_state};
-ghost use Rattle.std.specs.Cmp.{nat_cmp_total};
-ghost use Rattle.table.proofs.Laws.{total_lawful};
-ghost use Rattle.std.specs.Cmp.Lexicographic.{lists_total};
 
 use codes::{ShortSell, Status, Trading};
-use std::cmp::Ordering;
 use table::Row;
 use wire::{OrderRow, Symbol};
 
@@ -20,11 +17,23 @@ pub struct Stock {
 }
 
 /// A row of an answer: one order of a stock's side.
-#[derive(Clone, Copy)]
+#[derive(Clone, Copy, PartialEq, Eq)]
 pub struct BookRow {
     pub reference: u32,
     pub shares: u32,
     pub price: u64,
+}
+
+impl From<OrderRow> for BookRow {
+    ghost from_gives = { λ order row. row ≡ shown order };
+
+    fn from(order: OrderRow) -> BookRow {
+        BookRow {
+            reference: order.reference,
+            shares: order.shares,
+            price: order.price,
+        }
+    }
 }
 
 /// Stocks in the order of their symbols.
@@ -70,16 +79,8 @@ impl Row<BySymbol> for Stock {
 
     ghost key = { name_of };
 
-    ghost order = { by_name };
-
-    ghost lawful = { total_lawful (lists_total nat_cmp_total) };
-
     fn key_of(&self) -> [u8; 6] {
         self.symbol.bytes()
-    }
-
-    fn compare(a: &[u8; 6], b: &[u8; 6]) -> Ordering {
-        a.cmp(b)
     }
 }
 
@@ -88,15 +89,7 @@ impl Row<ByReference> for OrderRow {
 
     ghost key = { reference_of };
 
-    ghost order = { by_number };
-
-    ghost lawful = { total_lawful nat_cmp_total };
-
     fn key_of(&self) -> u32 {
         self.reference
-    }
-
-    fn compare(a: &u32, b: &u32) -> Ordering {
-        a.cmp(b)
     }
 }

@@ -1,6 +1,8 @@
 // Why a message stops the book.
-ghost use Rattle.std.specs.Prelude.{◌≡◌};
+ghost use Rattle.std.specs.Prelude.{◌≡◌, ◌∷◌, [], Some};
 ghost use Rattle.codes.specs.Codes.{cause_letter};
+
+use std::fmt;
 
 #[derive(Clone, Copy, PartialEq, Eq)]
 pub enum Cause {
@@ -22,10 +24,20 @@ pub enum Cause {
     InSnapshot = b'h' as isize,
 }
 
-impl Cause {
-    pub fn letter(self) -> char
-        ensures { result ≡ cause_letter self }
-    {
-        self as u8 as char
+// Each enum casts itself: std has no trait over these casts.
+impl From<Cause> for char {
+    ghost from_gives = { λ cause c. c ≡ cause_letter cause };
+
+    fn from(cause: Cause) -> char {
+        cause as u8 as char
+    }
+}
+
+impl fmt::Display for Cause {
+    ghost output = { λ cause. Some (cause_letter cause ∷ []) };
+
+    fn fmt<W: fmt::Write>(&self, f: &mut fmt::Formatter<W>) -> fmt::Result {
+        let letter = char::from(*self);
+        write!(f, "{letter}")
     }
 }

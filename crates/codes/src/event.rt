@@ -1,6 +1,10 @@
 // The events of the trading system, by their code.
-ghost use Rattle.std.specs.Prelude.{◌≡◌};
+ghost use Rattle.std.specs.Prelude.{◌≡◌, ◌∷◌, [], Some};
+ghost use Rattle.std.specs.Result.{result_ok};
 ghost use Rattle.codes.specs.Codes.{event_letter, event_of};
+
+use crate::unlisted::Unlisted;
+use std::fmt;
 
 #[derive(Clone, Copy, PartialEq, Eq)]
 pub enum EventCode {
@@ -10,22 +14,36 @@ pub enum EventCode {
     EndOfMessages = b'C' as isize,
 }
 
-impl EventCode {
-    pub fn letter(self) -> char
-        ensures { result ≡ event_letter self }
-    {
-        self as u8 as char
-    }
+// Each enum casts itself: std has no trait over these casts.
+impl From<EventCode> for char {
+    ghost from_gives = { λ code c. c ≡ event_letter code };
 
-    pub fn read(code: u8) -> Option<EventCode>
-        ensures { result ≡ event_of code }
-    {
+    fn from(code: EventCode) -> char {
+        code as u8 as char
+    }
+}
+
+impl fmt::Display for EventCode {
+    ghost output = { λ code. Some (event_letter code ∷ []) };
+
+    fn fmt<W: fmt::Write>(&self, f: &mut fmt::Formatter<W>) -> fmt::Result {
+        let letter = char::from(*self);
+        write!(f, "{letter}")
+    }
+}
+
+impl TryFrom<u8> for EventCode {
+    type Error = Unlisted;
+
+    ghost try_from_gives = { λ code r. result_ok r ≡ event_of code };
+
+    fn try_from(code: u8) -> Result<EventCode, Unlisted> {
         match code as char {
-            'O' => Some(EventCode::StartOfMessages),
-            'S' => Some(EventCode::StartOfTrading),
-            'E' => Some(EventCode::EndOfSystem),
-            'C' => Some(EventCode::EndOfMessages),
-            _ => None,
+            'O' => Ok(EventCode::StartOfMessages),
+            'S' => Ok(EventCode::StartOfTrading),
+            'E' => Ok(EventCode::EndOfSystem),
+            'C' => Ok(EventCode::EndOfMessages),
+            _ => Err(Unlisted),
         }
     }
 }

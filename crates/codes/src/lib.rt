@@ -1,4 +1,5 @@
-// The enums that answers are made of, each with the number or the letter of its cases.
+// The enums that answers are made of, each with the number or the letter of its cases. The letters are converted and
+// printed by one `impl` for each enum, since each casts its own.
 #![tactic(auto)]
 
 mod cause;
@@ -9,6 +10,7 @@ mod short;
 mod side;
 mod status;
 mod trading;
+mod unlisted;
 
 pub use cause::Cause;
 pub use event::EventCode;
@@ -18,3 +20,4 @@ pub use short::ShortSell;
 pub use side::Side;
 pub use status::Status;
 pub use trading::Trading;
+pub use unlisted::Unlisted;

@@ -1,12 +1,14 @@
 // Why a call is refused, with what the refusal names.
-ghost use Rattle.std.specs.Prelude.{◌≡◌};
+ghost use Rattle.std.specs.Prelude.{◌≡◌, Some};
 ghost use Rattle.codes.specs.Codes.{numbered, refusal_number};
+ghost use Rattle.codes.specs.Texts.{refusal_text};
 
 use crate::cause::Cause;
 use crate::lamp::Lamp;
+use std::fmt;
 
 // The number of each refusal. Beside `Refusal`, since a variant that holds something takes no value.
-#[derive(Clone, Copy)]
+#[derive(Clone, Copy, PartialEq, Eq)]
 pub enum RefusalNumber {
     Dark = 1,
     NotDark = 2,
@@ -27,7 +29,7 @@ pub enum RefusalNumber {
     NoRequest = 17,
 }
 
-#[derive(Clone, Copy)]
+#[derive(Clone, Copy, PartialEq, Eq)]
 pub enum Refusal {
     // the follower is dark, and the call is neither lamp nor start
     Dark,
@@ -65,12 +67,12 @@ pub enum Refusal {
     NoRequest,
 }
 
-impl Refusal {
-    // The refusal without what it names.
-    pub fn name(self) -> RefusalNumber
-        ensures { result ≡ numbered self }
-    {
-        match self {
+// The refusal without what it names.
+impl From<Refusal> for RefusalNumber {
+    ghost from_gives = { λ refusal number. number ≡ numbered refusal };
+
+    fn from(refusal: Refusal) -> RefusalNumber {
+        match refusal {
             Refusal::Dark => RefusalNumber::Dark,
             Refusal::NotDark => RefusalNumber::NotDark,
             Refusal::Red => RefusalNumber::Red,
@@ -90,10 +92,27 @@ impl Refusal {
             Refusal::NoRequest => RefusalNumber::NoRequest,
         }
     }
+}
 
-    pub fn number(self) -> u8
-        ensures { result ≡ refusal_number (numbered self) }
-    {
-        self.name() as u8
+impl From<Refusal> for u8 {
+    ghost from_gives = { λ refusal number. number ≡ refusal_number (numbered refusal) };
+
+    fn from(refusal: Refusal) -> u8 {
+        RefusalNumber::from(refusal) as u8
+    }
+}
+
+// The number, and then what the refusal names.
+impl fmt::Display for Refusal {
+    ghost output = { λ refusal. Some (refusal_text refusal) };
+
+    fn fmt<W: fmt::Write>(&self, f: &mut fmt::Formatter<W>) -> fmt::Result {
+        let number = u8::from(*self);
+        match *self {
+            Refusal::SnapshotStopped(cause) => write!(f, "{number} {cause}"),
+            Refusal::NotGreen(lamp) => write!(f, "{number} {lamp}"),
+            Refusal::TooFewRows(rows) => write!(f, "{number} {rows}"),
+            _ => write!(f, "{number}"),
+        }
     }
 }

@@ -1,6 +1,8 @@
 // Whether a stock's short-sell price check is active.
-ghost use Rattle.std.specs.Prelude.{◌≡◌};
+ghost use Rattle.std.specs.Prelude.{◌≡◌, ◌∷◌, [], Some};
 ghost use Rattle.codes.specs.Codes.{short_letter};
+
+use std::fmt;
 
 #[derive(Clone, Copy, PartialEq, Eq)]
 pub enum ShortSell {
@@ -8,10 +10,20 @@ pub enum ShortSell {
     Inactive = b'D' as isize,
 }
 
-impl ShortSell {
-    pub fn letter(self) -> char
-        ensures { result ≡ short_letter self }
-    {
-        self as u8 as char
+// Each enum casts itself: std has no trait over these casts.
+impl From<ShortSell> for char {
+    ghost from_gives = { λ state c. c ≡ short_letter state };
+
+    fn from(state: ShortSell) -> char {
+        state as u8 as char
+    }
+}
+
+impl fmt::Display for ShortSell {
+    ghost output = { λ state. Some (short_letter state ∷ []) };
+
+    fn fmt<W: fmt::Write>(&self, f: &mut fmt::Formatter<W>) -> fmt::Result {
+        let letter = char::from(*self);
+        write!(f, "{letter}")
     }
 }

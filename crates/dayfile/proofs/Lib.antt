@@ -1,3 +1,2 @@
-pub mod Layouts
 pub mod Cuts
-pub mod Numbers
+pub mod Layouts

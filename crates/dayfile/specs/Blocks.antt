@@ -1,9 +1,10 @@
 -- What the bytes of a day file say.
-use Rattle.std.specs.Prelude.{ℕ, zero, suc, ◌+◌, ◌*◌, ◌/◌, ◌%◌, Bool, true, cond, ◌&&◌, List, [], ◌∷◌, length, take, drop, Some, None, Ok, Err, Option, Result, ◌==◌}
+use Rattle.std.specs.Prelude.{ℕ, zero, suc, ◌+◌, ◌*◌, ◌/◌, ◌%◌, Bool, cond, List, [], ◌∷◌, length, take, drop, Some, None, Ok, Err, Option, Result, ◌==◌}
+use Rattle.std.specs.List.{list_all}
 use Rattle.std.specs.Option.{option_map}
 use Rattle.codes.specs.declared.refusal.Refusal.{Refusal}
 use Rattle.codes.specs.declared.refusal.Refusal.TheVariants.{NoGoodBlock}
-use Rattle.wire.specs.declared.session.Session.{Session}
+use Rattle.wire.specs.Names.{Session}
 use Rattle.wire.specs.Messages.{part}
 use Rattle.wire.specs.Names.{session_of}
 use Rattle.wire.specs.Numbers.{be16}
@@ -36,9 +37,8 @@ extent (suc n) bytes =
     elim (message_length bytes) [ None ↦ None | Some k ↦ option_map (λ e. 2 + k + e) (extent n (drop (2 + k) bytes)) ]
 
 -- nothing but zeros
-unfoldable pub zeros : List ℕ → Bool
-zeros [] = true
-zeros (b ∷ bs) = b == 0 && zeros bs
+abbrev pub zeros : List ℕ → Bool
+zeros = list_all (λ b. b == 0)
 
 -- what a good block has: a session, and messages that are numbered from a number on
 pub record Block : Type 0 where

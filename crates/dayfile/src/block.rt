@@ -1,11 +1,10 @@
 // One block of a day file: a session, a packet padded with zeros, and a check.
-ghost use Rattle.std.specs.Prelude.{◌≡◌, ◌+◌, ◌≤◌, length, IfSome, Some, ◌==◌};
+ghost use Rattle.std.specs.Prelude.{◌≡◌, ◌+◌, ◌≤◌, length, IfSome, Some};
 ghost use Rattle.std.specs.Option.{option_map};
-ghost use Rattle.wire.specs.Numbers.{be16 as bigEndian16};
-ghost use Rattle.dayfile.specs.Blocks.{check_of, extent as extentOf, zeros as zerosIn, good, padded_packet};
-ghost use Rattle.dayfile.specs.Cursors.{seen};
+ghost use Rattle.dayfile.specs.Blocks.{check_of, extent, zeros, good, padded_packet};
+ghost use Rattle.dayfile.specs.Looks.{seen};
 
-use wire::{Messages, Packet, Session, front_length};
+use wire::{Messages, Packet, Session, field, skip_messages};
 
 // The bytes of a block.
 pub(crate) const BLOCK: usize = 512;
@@ -26,7 +25,8 @@ pub(crate) struct GoodBlock<'a> {
 pub fn block_check(block: &[u8]) -> u16
     ensures { result ≡ check_of block.now }
 {
-    let covered = &block[0..block.len().min(COVERED)];
+    let covered = &block[..block.len().min(COVERED)];
+    // Not as a chain with `map` and `sum`, where no term shows its place, which bounds it.
     let mut sum = 0;
     for (i, b) in covered.iter().enumerate() {
         sum += (i as u32 + 1) * u32::from(*b);
@@ -35,31 +35,19 @@ pub fn block_check(block: &[u8]) -> u16
 }
 
 impl<'a> GoodBlock<'a> {
+    // The block that the bytes are, where the check at their end is that of the bytes before it.
+    #[tactic(auto, unfolding(crate::specs::Blocks::good))]
     pub(crate) fn read(block: &'a [u8]) -> Option<GoodBlock<'a>>
         requires { length block.now ≡ 512 }
         ensures { option_map seen result ≡ good block.now }
     {
-        if !check_is_right(block) {
+        let check = u16::from_be_bytes(field(block, COVERED)?);
+        if block_check(block) != check {
             return None;
         }
-        let session = Session::read(&block[0..10])?;
+        let session = Session::read(&block[..10])?;
         padded_packet(session, &block[10..COVERED])
     }
-}
-
-// The check at the end of a block is that of the bytes before it.
-fn check_is_right(block: &[u8]) -> bool
-    requires { length block.now ≡ 512 }
-    ensures { result ≡ (check_of block.now == bigEndian16 block.now 510) }
-{
-    block_check(block) == be16(block, COVERED)
-}
-
-fn be16(bytes: &[u8], at: usize) -> u16
-    requires { at + 2 ≤ length bytes.now }
-    ensures { result ≡ bigEndian16 bytes.now at }
-{
-    u16::from_be_bytes([bytes[at], bytes[at + 1]])
 }
 
 // A packet with messages, behind which only zeros stand.
@@ -67,38 +55,29 @@ fn padded_packet(session: Session, padded: &[u8]) -> Option<GoodBlock<'_>>
     requires { 6 ≤ length padded.now }
     ensures { option_map seen result ≡ padded_packet (Some session) padded.now }
 {
-    let end = 6 + extent(&padded[6..], be16(padded, 4))?;
+    let count = u16::from_be_bytes(field(padded, 4)?);
+    let end = 6 + extent(&padded[6..], count)?;
     if !zeros(&padded[end..]) {
         return None;
     }
-    let Ok(packet) = Packet::read(&padded[0..end]) else {
+    let Packet::Data(messages) = Packet::read(&padded[..end]).ok()? else {
         return None;
     };
-    match packet {
-        Packet::Data(messages) => Some(GoodBlock { session, messages }),
-        Packet::Heartbeat { .. } => None,
-    }
+    Some(GoodBlock { session, messages })
 }
 
 // How many bytes so many messages take at the front.
+#[tactic(auto, using(crate::proofs::Layouts::extent_some, crate::proofs::Layouts::extent_none))]
 fn extent(bytes: &[u8], count: u16) -> Option<usize>
-    ensures value { result ≡ extentOf count bytes.now }
+    ensures value { result ≡ extent count bytes.now }
     ensures within { IfSome result (λ n. n ≤ length bytes.now) }
 {
-    let mut end = 0;
-    for i in 0..count {
-        end += 2 + front_length(&bytes[end..], 5, 80)?;
-    }
-    Some(end)
+    let rest = skip_messages(bytes, count)?;
+    Some(bytes.len() - rest.len())
 }
 
 fn zeros(bytes: &[u8]) -> bool
-    ensures { result ≡ zerosIn bytes.now }
+    ensures { result ≡ zeros bytes.now }
 {
-    for b in bytes {
-        if *b != 0 {
-            return false;
-        }
-    }
-    true
+    bytes.iter().all(|b| *b == 0)
 }

@@ -2,6 +2,7 @@
 #![tactic(auto)]
 
 mod block;
+mod cursor;
 mod file;
 mod look;
 

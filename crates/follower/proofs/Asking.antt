@@ -1,7 +1,5 @@
 -- The lamp of a follower of the code, and its answers to questions.
-use Rattle.std.proofs.Common.{◌≡◌, ℕ, ◌<◌, ◌≤◌, Bool, true, false, List, Some, None, Ok, Err, Option, Result, sym, refl, ap, ◌∙◌, arith, Bor}
-use Rattle.std.proofs.lemmas.Bool.{le-leb, lt-leb}
-use Rattle.codes.specs.declared.cause.Cause.{Cause}
+use Rattle.std.proofs.Common.{◌≡◌, ℕ, Bool, List, Some, None, Ok, Err, Option, Result, sym, refl, ap, ◌∙◌, Bor}
 use Rattle.codes.specs.declared.lamp.Lamp.{Lamp}
 use Rattle.codes.specs.declared.lamp.Lamp.TheVariants as lamp
 use Rattle.codes.specs.declared.refusal.Refusal.{Refusal}
@@ -11,7 +9,7 @@ use Rattle.codes.specs.declared.side.Side.{Side}
 use Rattle.codes.specs.declared.trading.Trading.{Trading}
 use Rattle.wire.specs.Answers.{through}
 use Rattle.wire.specs.Names.{symbol_of}
-use Rattle.wire.specs.declared.symbol.Symbol.{Symbol}
+use Rattle.wire.specs.Names.{Symbol}
 use Rattle.book.specs.Plain.{Plain}
 use Rattle.book.specs.Questions.{event_in, states_of, orders_of, counted, filled}
 use Rattle.book.specs.declared.rows.BookRow.{BookRow}
@@ -20,6 +18,7 @@ use Rattle.following.specs.States.{Room, Held, Wanting, lamp_at, lamp_of}
 use Rattle.following.specs.Calls as calls
 use Rattle.following.specs.Calls.{Reply, ask, answered, told, refused, of_stock}
 use Rattle.following.specs.Follower.{outcome, while_started, on_question}
+use Rattle.running.specs.declared.moves.Wanted.{Wanted as WantedOf}
 use Rattle.follower.specs.declared.call.Answer.{Answer}
 use Rattle.follower.specs.declared.call.Answer.TheVariants as answer
 use Rattle.follower.specs.declared.call.Question.{Question}
@@ -27,40 +26,9 @@ use Rattle.follower.specs.declared.call.Question.TheVariants as question
 use Rattle.follower.specs.declared.state.State.{State}
 use Rattle.follower.specs.declared.state.State.TheVariants as state
 use Rattle.follower.specs.declared.state.Started.{Started}
-use Rattle.follower.specs.Modelled.{wanting_at, modelled}
-use Rattle.follower.specs.Model.{question_of, answer_of, rows_after, is_started}
-use Rattle.follower.specs.Steps.{replied, rows_replied}
-
-module _ (s : State) (book : Plain) (held : List Held) where
-  pub lamp_dark : s ≡ state.Dark → lamp.Dark ≡ lamp_of (modelled s book held)
-  unfolding lamp_of
-  lamp_dark e = ap (λ x. lamp_of (modelled x book held)) (sym e)
-
-  pub lamp_red : (number : ℕ) (cause : Cause) → s ≡ state.Red number cause → lamp.Red number cause ≡ lamp_of (modelled s book held)
-  unfolding lamp_of
-  lamp_red number cause e = ap (λ x. lamp_of (modelled x book held)) (sym e)
-
-  module _ (t : Started) (is : s ≡ state.Started t) where
-    -- the lamp of a started follower, from its parts
-    lamp_started : (wanted : Option ℕ) (heard : Bool) → t.marks.wanted ≡ wanted → t.heard ≡ heard → lamp_at (wanting_at wanted book) heard t.marks.highest ≡ lamp_of (modelled s book held)
-    unfolding lamp_of
-    lamp_started wanted heard e f =
-        ap (λ w. lamp_at (wanting_at w book) heard t.marks.highest) (sym e)
-        ∙ ap (λ b. lamp_at (wanting_at t.marks.wanted book) b t.marks.highest) (sym f)
-        ∙ ap (λ x. lamp_of (modelled x book held)) (sym is)
-
-    pub lamp_bookless : t.marks.wanted ≡ None → lamp.Waiting ≡ lamp_of (modelled s book held)
-    lamp_bookless e = lamp_started None t.heard e refl
-
-    module _ (wanted : ℕ) (e : t.marks.wanted ≡ Some wanted) where
-      pub lamp_unheard : t.heard ≡ false → lamp.Waiting ≡ lamp_of (modelled s book held)
-      lamp_unheard f = lamp_started (Some wanted) false e f
-
-      pub lamp_gap : t.heard ≡ true → wanted ≤ t.marks.highest → lamp.Gap wanted t.marks.highest ≡ lamp_of (modelled s book held)
-      lamp_gap f l = simp (le-leb wanted t.marks.highest l) at (lamp_started (Some wanted) true e f)
-
-      pub lamp_green : t.heard ≡ true → t.marks.highest < wanted → lamp.Green wanted ≡ lamp_of (modelled s book held)
-      lamp_green f l = simp (lt-leb wanted t.marks.highest l) at (lamp_started (Some wanted) true e f)
+use Rattle.follower.specs.Modelled.{wanting_at, is_heard, highest_of, modelled}
+use Rattle.follower.specs.Model.{question_of, answer_of, rows_after}
+use Rattle.follower.specs.Steps.{replied, rows_replied, started_in}
 
 -- the orders of a reply, as their number and in the lent rows
 counts : (o : Result (List BookRow) Refusal) → through answer.Orders (counted o) ≡ replied (through calls.orders_are o)
@@ -120,41 +88,38 @@ rows_told s (Err why) rows = refl
 module _ (room : Room) (book : Plain) (q : calls.Question) where
   -- where the lamp is green there is a book
   green_book :
-      (s : plain.State) (wanted : Option ℕ) (heard : Bool) (highest w : ℕ) → lamp.Green w ≡ lamp_at (wanting_at wanted book) heard highest →
+      (s : plain.State) (wanted : Option WantedOf) (heard : Bool) (highest w : ℕ) → lamp.Green w ≡ lamp_at (wanting_at wanted book) heard highest →
       told s (answered book q) ≡ on_question room (lamp_at (wanting_at wanted book) heard highest) (wanting_at wanted book) s q
-  green_book s None heard highest w e = let z : ◌≡◌ {A = ℕ} 0 1 = cc in absurd (omega arith)
-  green_book s (Some v) heard highest w e = ap (λ l. on_question room l (Some (record { book = book; wanted = v })) s q) e
+  green_book s None heard highest w e = absurd cc
+  green_book s (Some v) heard highest w e = ap (λ l. on_question room l (Some (record { book = book; wanted = v.number })) s q) e
 
   not_green :
       (s : plain.State) (b : Option Wanting) (l : Lamp) → ((w : ℕ) → l ≡ lamp.Green w → ⊥) → refused (refusal.NotGreen l) ≡ on_question room l b s q
-  not_green s b lamp.Dark n = refl
-  not_green s b (lamp.Red number cause) n = refl
-  not_green s b lamp.Waiting n = refl
-  not_green s b (lamp.Gap wanted heard) n = refl
   not_green s b (lamp.Green wanted) n = absurd (n wanted refl)
+  not_green s b shown n = refl
 
   module _ (held : List Held) where
     asked_green :
-        (s : State) (w : ℕ) → is_started s ≡ true → lamp.Green w ≡ lamp_of (modelled s book held) →
+        (s : State) (x : Started) (w : ℕ) → Ok x ≡ started_in s → lamp.Green w ≡ lamp_of (modelled s book held) →
         told (modelled s book held) (answered book q) ≡ outcome room (modelled s book held) (ask q)
     unfolding lamp_of outcome while_started
-    asked_green state.Dark w i e = let z : ◌≡◌ {A = ℕ} 0 1 = cc in absurd (omega arith)
-    asked_green (state.Red number cause) w i e = let z : ◌≡◌ {A = ℕ} 0 1 = cc in absurd (omega arith)
-    asked_green (state.Started t) w i e = green_book (modelled (state.Started t) book held) t.marks.wanted t.heard t.marks.highest w e
+    asked_green state.Dark x w i e = absurd cc
+    asked_green (state.Red stop) x w i e = absurd cc
+    asked_green (state.Started t) x w i e = green_book (modelled (state.Started t) book held) t.wanted (is_heard t.heard) (highest_of t.heard) w e
 
-    module _ (s : State) (w : ℕ) (i : is_started s ≡ true) (e : lamp.Green w ≡ lamp_of (modelled s book held)) where
+    module _ (s : State) (x : Started) (w : ℕ) (i : Ok x ≡ started_in s) (e : lamp.Green w ≡ lamp_of (modelled s book held)) where
       pub answer_green : (r : Result Answer Refusal) → r ≡ replied (answered book q) → r ≡ answer_of (outcome room (modelled s book held) (ask q))
-      answer_green r f = f ∙ answer_told (modelled s book held) (answered book q) ∙ ap answer_of (asked_green s w i e)
+      answer_green r f = f ∙ answer_told (modelled s book held) (answered book q) ∙ ap answer_of (asked_green s x w i e)
 
       pub rows_green : (before after : List BookRow) → after ≡ rows_replied (answered book q) before → after ≡ rows_after (outcome room (modelled s book held) (ask q)) before
-      rows_green before after f = f ∙ rows_told (modelled s book held) (answered book q) before ∙ ap (λ o. rows_after o before) (asked_green s w i e)
+      rows_green before after f = f ∙ rows_told (modelled s book held) (answered book q) before ∙ ap (λ o. rows_after o before) (asked_green s x w i e)
 
     pub asked_else :
-        (s : State) (l : Lamp) → is_started s ≡ true → l ≡ lamp_of (modelled s book held) → ((w : ℕ) → l ≡ lamp.Green w → ⊥) →
+        (s : State) (x : Started) (l : Lamp) → Ok x ≡ started_in s → l ≡ lamp_of (modelled s book held) → ((w : ℕ) → l ≡ lamp.Green w → ⊥) →
         refused (refusal.NotGreen l) ≡ outcome room (modelled s book held) (ask q)
     unfolding lamp_of outcome while_started
-    asked_else state.Dark l i e n = let z : ◌≡◌ {A = ℕ} 0 1 = cc in absurd (omega arith)
-    asked_else (state.Red number cause) l i e n = let z : ◌≡◌ {A = ℕ} 0 1 = cc in absurd (omega arith)
-    asked_else (state.Started t) l i e n =
-        let b = wanting_at t.marks.wanted book in
+    asked_else state.Dark x l i e n = absurd cc
+    asked_else (state.Red stop) x l i e n = absurd cc
+    asked_else (state.Started t) x l i e n =
+        let b = wanting_at t.wanted book in
         not_green (modelled (state.Started t) book held) b l n ∙ ap (λ x. on_question room x b (modelled (state.Started t) book held) q) e

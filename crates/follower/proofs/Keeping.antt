@@ -1,38 +1,16 @@
 -- The promise of the plain follower holds of one call of the code.
-use Rattle.std.proofs.Common.{◌≡◌, ℕ, suc, pred, ◌-◌, ◌≤◌, Bool, true, false, ◌⊎◌, List, [], ◌∷◌, Ok, Err, Result, sym, refl, ap, ◌∙◌, subst, inl, inr, arith}
+use Rattle.std.proofs.Common.{◌≡◌, ℕ, suc, pred, ◌-◌, ◌≤◌, ◌⊎◌, List, ◌∷◌, Ok, sym, ap, ◌∙◌, subst, inl, inr, arith}
 use Rattle.codes.specs.declared.cause.Cause.{Cause}
 use Rattle.codes.specs.declared.lamp.Lamp.TheVariants as lamp
-use Rattle.codes.specs.declared.refusal.Refusal.{Refusal}
-use Rattle.codes.specs.declared.refusal.Refusal.TheVariants as refusal
 use Rattle.source.specs.Meanings.{Meaning}
-use Rattle.book.specs.declared.rows.BookRow.{BookRow}
-use Rattle.following.specs.States.{Room, State, red, lamp_of}
-use Rattle.following.specs.Calls.{
-  Call,
-  start_at_one,
-  start_by_snapshot,
-  stop,
-  packet,
-  snapshot,
-  repair,
-  show_lamp,
-  ask,
-  Question,
-  Outcome,
-  refused,
-  accepted,
-  told,
-  answered,
-  lamp_shown,
-  repaired,
-}
+use Rattle.following.specs.States.{Room, red, lamp_of}
+use Rattle.following.specs.Calls.{Call, repair, show_lamp, ask, Question, Outcome, told, answered}
 use Rattle.following.specs.Follower.{outcome, moved}
-use Rattle.following.specs.Days.{Day, reached, whole_run, after, since, highest_in, AllBelong}
-use Rattle.following.specs.Law.{held_of, missing, Covers, Right, Refuses, Mends, Promise}
+use Rattle.following.specs.Days.{Day, whole_run, after, since, highest_in, AllBelong}
+use Rattle.following.specs.Law.{held_of, missing, Covers, Refuses, Mends}
 use Rattle.following.specs.declared.answers.Ending.TheVariants as ending
 use Rattle.following.proofs.Promises.{law}
 use Rattle.following.proofs.Further.{lamp_is_shown}
-use Rattle.follower.specs.declared.call.Answer.{Answer}
 use Rattle.follower.specs.declared.call.Answer.TheVariants as answer
 use Rattle.follower.specs.Model.{answer_of, rows_after}
 use Rattle.follower.specs.Law.{Seen, Answers, Refused, MendedAll, Own, Kept}
@@ -94,17 +72,13 @@ module _ (room : Room) (seen : Seen) (history : List Call) (led : after room his
       go (inr e) = inr (m.fetched, e.1.0, e.1.1, said ∙ ap (λ h. Ok (answer.Repaired m.fetched h)) e.0, state ∙ e.1.2)
 
   own : (day : Day) (c : Call) → Shown room c seen → AllBelong room day (since room history) → Own room day c seen
-  own day start_at_one s ok = tt
-  own day start_by_snapshot s ok = tt
-  own day stop s ok = tt
-  own day (packet bytes) s ok = tt
-  own day (snapshot bytes) s ok = tt
   own day (repair source budget) s ok = λ w k g ours cov enough.
       mends source budget k (missing (held_of seen.before) w (suc k - w)) s
       (subst (λ x. (w k : ℕ) → lamp_of x ≡ lamp.Gap w k → Covers source w k (held_of x) → missing (held_of x) w (suc k - w) ≤ budget → Mends room x source budget k (missing (held_of x) w (suc k - w))) led
       (λ w k g cov enough. (law room history day ok).gap_mends w k g source budget ours cov enough) w k g cov enough)
   own day show_lamp s ok = own_lamp day s
   own day (ask q) s ok = (green_answers day q s ok, no_answer day q s ok)
+  own day call s ok = tt
 
 pub kept : (room : Room) (c : Call) (seen : Seen) → Shown room c seen → Kept room c seen
 kept room c seen s history led =

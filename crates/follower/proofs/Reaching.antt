@@ -1,5 +1,5 @@
 -- One call more in a history, and what holds of every state that a history leads to.
-use Rattle.std.proofs.Common.{◌≡◌, ℕ, suc, ◌≤◌, Bool, true, false, ◌&&◌, leb, List, [], ◌∷◌, Some, None, Option, sym, refl, ap, ◌∙◌, subst}
+use Rattle.std.proofs.Common.{◌≡◌, ℕ, suc, ◌≤◌, Bool, true, leb, ◌∷◌, Some, None, Ok, Err, Option, sym, refl, ap, ◌∙◌, subst}
 use mathlib.Core.Bool.{Bool-set}
 use mathlib.Core.Logic.{∥∥₁_map, ∥∥₁_elim}
 use Rattle.std.proofs.lemmas.Bool.{and_from, le-leb}
@@ -10,12 +10,11 @@ use Rattle.following.specs.Follower.{place_of, outcome, moved}
 use Rattle.following.specs.Days.{after, since, highest_in}
 use Rattle.following.proofs.Shapes.{Shape}
 use Rattle.following.proofs.Standing.{Tidy, tidy}
-use Rattle.running.specs.Runners.{place_in, book_in, held_in}
-use Rattle.running.specs.declared.moves.Reached.{Reached}
-use Rattle.running.specs.declared.moves.Reached.TheVariants as reached
+use Rattle.running.specs.Runners.{Reached, place_in, book_in, held_in}
+use Rattle.running.specs.declared.moves.Wanted.{Wanted as WantedOf}
 use Rattle.running.specs.declared.runner.Runner.{Runner}
 use Rattle.follower.specs.Modelled.{Reachable, wanting_at}
-use Rattle.follower.specs.Steps.{reached_at, bounded_by}
+use Rattle.follower.specs.Steps.{bounded_by}
 
 -- a call leads on
 pub reach :
@@ -34,12 +33,12 @@ pub in_order : (room : Room) (st : Started) → Reachable room (started st) → 
 in_order room st r = (subst (Tidy (highest_in room (since room r.0))) r.1 (tidy room r.0)).1
 
 -- where a started follower stands
-pub stands : (runner : Runner) (wanted : Option ℕ) → place_of (wanting_at wanted (book_in runner)) (held_in runner) ≡ place_in runner (reached_at wanted)
+pub stands : (runner : Runner) (wanted : Option WantedOf) → place_of (wanting_at wanted (book_in runner)) (held_in runner) ≡ place_in runner (Ok wanted)
 stands runner None = refl
 stands runner (Some w) = refl
 
 -- a place in order keeps the wanted number within its bound
 pub bounded : (runner : Runner) (x : Reached) (k : ℕ) → k ≤ most32 → Shape k (place_in runner x) → bounded_by x k ≡ true
-bounded runner reached.NoBook k m s = le-leb k most32 m
-bounded runner (reached.Wanting w) k m s = and_from (leb w (suc k)) (leb k most32) (le-leb w (suc k) s.0) (le-leb k most32 m)
-bounded runner (reached.Stopped n c) k m s = refl
+bounded runner (Ok None) k m s = le-leb k most32 m
+bounded runner (Ok (Some w)) k m s = and_from (leb w.number (suc k)) (leb k most32) (le-leb w.number (suc k) s.0) (le-leb k most32 m)
+bounded runner (Err stop) k m s = refl

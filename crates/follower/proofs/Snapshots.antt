@@ -1,10 +1,10 @@
 -- How a snapshot comes out, by what the code found.
-use Rattle.std.proofs.Common.{◌≡◌, ℕ, pred, ◌≤◌, max, Bool, true, false, cond, List, is_some, Some, None, Ok, Err, Option, Result, sym, refl, ap, ◌∙◌, subst, arith}
+use Rattle.std.proofs.Common.{◌≡◌, ℕ, pred, ◌-◌, ◌≤◌, max, Bool, true, false, cond, List, is_some, Some, None, Ok, Err, Option, Result, sym, refl, ap, ◌∙◌, subst, sub-one, arith}
 use Rattle.codes.specs.declared.refusal.Refusal.{Refusal}
 use Rattle.codes.specs.declared.refusal.Refusal.TheVariants as refusal
 use Rattle.wire.specs.Answers.{through}
 use Rattle.wire.specs.Numbers.{most32}
-use Rattle.wire.specs.declared.session.Session.{Session}
+use Rattle.wire.specs.Names.{Session}
 use Rattle.session.specs.Sessions.{session_messages, opening, rest_of}
 use Rattle.session.specs.Sessions as session
 use Rattle.session.specs.Carried.{carried, still_carried}
@@ -29,44 +29,44 @@ use Rattle.following.specs.Follower.{
 use Rattle.following.proofs.Shapes.{Shape}
 use Rattle.following.proofs.Standing.{snapshot_shape}
 use Rattle.following.proofs.Readings.{snapshot_next}
-use Rattle.running.specs.Runners.{room_of, place_in, book_in, held_in, snapshot_with}
-use Rattle.running.specs.declared.moves.Reached.{Reached}
+use Rattle.running.specs.Runners.{Reached, room_of, place_in, book_in, held_in, snapshot_with}
 use Rattle.running.specs.declared.runner.Runner.{Runner}
+use Rattle.running.specs.declared.moves.Wanted.{Wanted as WantedOf}
 use Rattle.follower.specs.declared.state.Started.{Started as StartedOf}
 use Rattle.follower.specs.declared.state.State.{State as StateOf}
 use Rattle.follower.specs.declared.state.State.TheVariants as state
-use Rattle.follower.specs.Modelled.{modelled, wanting_at, Reachable}
+use Rattle.follower.specs.Modelled.{modelled, wanting_at, is_heard, highest_of, Reachable}
 use Rattle.follower.specs.Steps.{bounded_by}
 use Rattle.follower.proofs.Reaching.{by_history, bounded}
 use Rattle.follower.proofs.Started.{started_as, highest_within, started_order}
 
-wants : (wanted : Option ℕ) (book : Plain) → is_some (wanting_at wanted book) ≡ is_some wanted
+wants : (wanted : Option WantedOf) (book : Plain) → is_some (wanting_at wanted book) ≡ is_some wanted
 wants None book = refl
 wants (Some w) book = refl
 
 -- without a book the book's rows do not show
-unread : (wanted : Option ℕ) (book book' : Plain) → is_some wanted ≡ false → wanting_at wanted book ≡ wanting_at wanted book'
+unread : (wanted : Option WantedOf) (book book' : Plain) → is_some wanted ≡ false → wanting_at wanted book ≡ wanting_at wanted book'
 unread None book book' n = refl
-unread (Some w) book book' n = let z : ◌≡◌ {A = ℕ} 0 1 = cc in absurd (omega arith)
+unread (Some w) book book' n = absurd cc
 
 module _ (room : Room) (runner : Runner) (s : StateOf) (x : StartedOf) (bytes : List ℕ) (e : s ≡ state.Started x) where
   abbrev Before : State
   Before = modelled s (book_in runner) (held_in runner)
 
   snapshots :
-      (t : Bool) → is_some x.marks.wanted ≡ t →
+      (t : Bool) → is_some x.wanted ≡ t →
       outcome room Before (snapshot bytes)
       ≡ cond t (refused refusal.HasBook) (on_snapshot room (started_as x (book_in runner) (held_in runner)) (snapshot_of room x.session bytes))
   unfolding outcome while_started
   snapshots t q =
       ap (λ y. outcome room (modelled y (book_in runner) (held_in runner)) (snapshot bytes)) e
       ∙ ap (λ u. cond u (refused refusal.HasBook) (on_snapshot room (started_as x (book_in runner) (held_in runner)) (snapshot_of room x.session bytes)))
-      (wants x.marks.wanted (book_in runner) ∙ q)
+      (wants x.wanted (book_in runner) ∙ q)
 
-  pub has_book : (t : Bool) → t ≡ is_some x.marks.wanted → t ≡ true → outcome room Before (snapshot bytes) ≡ refused refusal.HasBook
+  pub has_book : (t : Bool) → t ≡ is_some x.wanted → t ≡ true → outcome room Before (snapshot bytes) ≡ refused refusal.HasBook
   has_book t q y = snapshots true (sym q ∙ y)
 
-  module _ (none : is_some x.marks.wanted ≡ false) where
+  module _ (none : is_some x.wanted ≡ false) where
     -- the bytes do not open
     pub not_opened :
         (why : Refusal) → ((room : Room) → opened room x.session (of_mode (opening (session_messages bytes))) ≡ Err why) →
@@ -79,8 +79,8 @@ module _ (room : Room) (runner : Runner) (s : StateOf) (x : StartedOf) (bytes : 
     unshown after h =
         ap (λ y. modelled y (book_in after) (held_in after)) e
         ∙ ap (λ hs. modelled (state.Started x) (book_in after) hs) h
-        ∙ ap (λ b. started (record { session = x.session; book = b; heard = x.heard; highest = x.marks.highest; held = held_in runner }))
-        (unread x.marks.wanted (book_in after) (book_in runner) none)
+        ∙ ap (λ b. started (record { session = x.session; book = b; heard = is_heard x.heard; highest = highest_of x.heard; held = held_in runner }))
+        (unread x.wanted (book_in after) (book_in runner) none)
         ∙ ap (λ y. modelled y (book_in runner) (held_in runner)) (sym e)
 
     module _ (o : Opened) (opens : of_mode (opening (session_messages bytes)) ≡ Some (session.opened o)) (same : agrees x.session o.session ≡ true)
@@ -109,7 +109,10 @@ module _ (room : Room) (runner : Runner) (s : StateOf) (x : StartedOf) (bytes : 
         -- the code's completed snapshot
         module _ (stay : room_of after ≡ room) (h : held_in after ≡ held_in runner) (last : Runner) (to : Reached)
             (ran : place_in last to ≡ run_held (room_of after) (book_in after) next (held_from next (held_in after)))
-            (k : ℕ) (top : k ≡ max x.marks.highest (pred next)) where
+            (less high k : ℕ) (before : less ≡ next - 1) (tops : high ≡ highest_of x.heard) (most : k ≡ max high less) where
+          top : k ≡ max (highest_of x.heard) (pred next)
+          top = most ∙ ap (λ i. max i less) tops ∙ ap (max (highest_of x.heard)) (before ∙ sub-one next)
+
           led : run_held room (book_in after) next (held_from next (held_in runner)) ≡ place_in last to
           led =
               ap (λ hs. run_held room (book_in after) next (held_from next hs)) (sym h)
@@ -120,7 +123,7 @@ module _ (room : Room) (runner : Runner) (s : StateOf) (x : StartedOf) (bytes : 
           takes =
               snapshots false none
               ∙ ap (on_snapshot room (started_as x (book_in runner) (held_in runner))) (loads (Ok next) l)
-              ∙ ap (λ p. accepted (settled (Some o.session) (max x.marks.highest (pred next)) p) (snapshot_taken next)) led
+              ∙ ap (λ p. accepted (settled (Some o.session) (max (highest_of x.heard) (pred next)) p) (snapshot_taken next)) led
               ∙ ap (λ i. accepted (settled (Some o.session) i (place_in last to)) (snapshot_taken next)) (sym top)
 
           -- the wanted number stays within its bound
@@ -128,10 +131,10 @@ module _ (room : Room) (runner : Runner) (s : StateOf) (x : StartedOf) (bytes : 
           taken_bounded reached =
               by_history room Before (bounded_by to k) reached
               (λ r.
-              let m = highest_within x.marks.wanted x.marks.highest x.marks.bounded in
+              let m = highest_within x in
               let n = next_within in
               bounded last to k (omega arith)
               (subst (λ i. Shape i (place_in last to)) (sym top)
-              (subst (Shape (max x.marks.highest (pred next))) led
+              (subst (Shape (max (highest_of x.heard) (pred next))) led
               (snapshot_shape room (started_as x (book_in runner) (held_in runner)) (snapshot_with o.session (book_in after) next)
               (started_order room runner s x e r)))))

@@ -4,25 +4,10 @@ use Rattle.codes.specs.declared.cause.Cause.{Cause}
 use Rattle.codes.specs.declared.lamp.Lamp.TheVariants as lamp
 use Rattle.codes.specs.declared.refusal.Refusal.{Refusal}
 use Rattle.codes.specs.declared.refusal.Refusal.TheVariants as refusal
-use Rattle.source.specs.Meanings.{Meaning}
 use Rattle.book.specs.Plain.{Plain}
 use Rattle.book.specs.declared.rows.BookRow.{BookRow}
 use Rattle.following.specs.States.{Room, State, red, lamp_of}
-use Rattle.following.specs.Calls.{
-  Call,
-  start_at_one,
-  start_by_snapshot,
-  stop,
-  packet,
-  snapshot,
-  repair,
-  show_lamp,
-  ask,
-  Question,
-  told,
-  answered,
-  lamp_shown,
-}
+use Rattle.following.specs.Calls.{Call, repair, show_lamp, ask, Question, told, answered}
 use Rattle.following.specs.Days.{Day, reached, whole_run, after, since, AllBelong}
 use Rattle.following.specs.Law.{held_of, missing, Covers, Promise}
 use Rattle.following.specs.declared.answers.Ending.TheVariants as ending
@@ -60,11 +45,6 @@ module _ (room : Room) (day : Day) where
 
   -- what this call itself has to show
   abbrev pub Own : Call → Seen → Type 0
-  Own start_at_one seen = Unit {0}
-  Own start_by_snapshot seen = Unit {0}
-  Own stop seen = Unit {0}
-  Own (packet bytes) seen = Unit {0}
-  Own (snapshot bytes) seen = Unit {0}
   Own (repair source budget) seen =
       (w k : ℕ) → lamp_of seen.before ≡ lamp.Gap w k → source.session ≡ day.session
       → Covers source w k (held_of seen.before) → missing (held_of seen.before) w (suc k - w) ≤ budget
@@ -73,6 +53,7 @@ module _ (room : Room) (day : Day) where
   Own (ask q) seen =
       ((n : ℕ) → lamp_of seen.before ≡ lamp.Green n → Answers seen q n)
       × (((n : ℕ) → lamp_of seen.before ≢ lamp.Green n) → Refused seen)
+  Own call seen = Unit {0}
 
 -- for every history that led to the follower: this call leads on from it. And for every day: where all that was accepted
 -- since the last accepted start belongs to the day, this call included, the promise holds after the call; and where all that

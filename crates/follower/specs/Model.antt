@@ -1,11 +1,11 @@
 -- A follower of the code in the words of the plain follower: its state, its calls and its answers.
-use Rattle.std.specs.Prelude.{◌≡◌, ℕ, Bool, true, false, List, ◌++◌, length, drop, Ok, Err, Result}
+use Rattle.std.specs.Prelude.{◌≡◌, ℕ, List, ◌++◌, length, drop, Ok, Err, Result}
 use Rattle.codes.specs.declared.refusal.Refusal.{Refusal}
 use Rattle.source.specs.Meanings.{Meaning}
 use Rattle.book.specs.declared.rows.BookRow.{BookRow}
 use Rattle.following.specs.States as plain
 use Rattle.following.specs.Calls as calls
-use Rattle.following.specs.Follower.{moved}
+use Rattle.following.specs.Follower.{moved, outcome}
 use Rattle.running.specs.Runners.{room_of, book_in, held_in}
 use Rattle.follower.specs.declared.call.Answer.{Answer}
 use Rattle.follower.specs.declared.call.Answer.TheVariants as answer
@@ -14,8 +14,6 @@ use Rattle.follower.specs.declared.call.Call.TheVariants as call
 use Rattle.follower.specs.declared.call.Question.{Question}
 use Rattle.follower.specs.declared.call.Question.TheVariants as question
 use Rattle.follower.specs.declared.follower.Follower.{Follower}
-use Rattle.follower.specs.declared.state.State.{State}
-use Rattle.follower.specs.declared.state.State.TheVariants as state
 use Rattle.follower.specs.Modelled.{modelled}
 
 abbrev pub model : Follower → plain.State
@@ -42,17 +40,6 @@ call_of meaning (call.Repair source budget) rows = calls.repair (meaning source.
 call_of meaning call.Lamp rows = calls.show_lamp
 call_of meaning (call.Ask q) rows = calls.ask (question_of q rows)
 
--- what the source of a call needs of itself
-abbrev pub SourcesAgree : {S : Type 0} → (S → Type 0) → Call S → Type 0
-SourcesAgree agrees call.StartAtOne = Unit {0}
-SourcesAgree agrees call.StartBySnapshot = Unit {0}
-SourcesAgree agrees call.Stop = Unit {0}
-SourcesAgree agrees (call.Packet bytes) = Unit {0}
-SourcesAgree agrees (call.Snapshot bytes) = Unit {0}
-SourcesAgree agrees (call.Repair source budget) = agrees source.now
-SourcesAgree agrees call.Lamp = Unit {0}
-SourcesAgree agrees (call.Ask q) = Unit {0}
-
 -- the code's answer for one of the plain follower; the rows themselves are lent
 abbrev pub answer_as : calls.Reply → Answer
 answer_as calls.done = answer.Done
@@ -70,18 +57,16 @@ answer_of (calls.accepted state reply) = Ok (answer_as reply)
 
 -- lent rows with an answer's at their front
 abbrev pub rows_with : calls.Reply → List BookRow → List BookRow
-rows_with calls.done rows = rows
-rows_with (calls.counted c) rows = rows
-rows_with (calls.snapshot_taken n) rows = rows
-rows_with (calls.repaired n how) rows = rows
-rows_with (calls.lamp_shown l) rows = rows
-rows_with (calls.event_is code) rows = rows
-rows_with (calls.states_are both) rows = rows
 rows_with (calls.orders_are found) rows = found ++ drop (length found) rows
+rows_with reply rows = rows
 
 abbrev pub rows_after : calls.Outcome → List BookRow → List BookRow
 rows_after (calls.refused why) rows = rows
 rows_after (calls.accepted state reply) rows = rows_with reply rows
+
+-- how a call comes out on the plain follower
+abbrev pub out_of : {S : Type 0} → (S → Meaning) → Follower → Call S → List BookRow → calls.Outcome
+out_of meaning f call rows = outcome (slots_of f) (model f) (call_of meaning call (length rows))
 
 -- a call came out: the state after it, its answer, and the same slots
 pub record CameOut (before after : Follower) (o : calls.Outcome) (r : Result Answer Refusal) : Type 0 where
@@ -89,7 +74,6 @@ pub record CameOut (before after : Follower) (o : calls.Outcome) (r : Result Ans
   pub answer : r ≡ answer_of o
   pub room : slots_of after ≡ slots_of before
 
-abbrev pub is_started : State → Bool
-is_started state.Dark = false
-is_started (state.Red k cause) = false
-is_started (state.Started s) = true
+-- a call comes out as it does on the plain follower
+abbrev pub Comes : Follower → Follower → calls.Call → Result Answer Refusal → Type 0
+Comes before after call r = CameOut before after (outcome (slots_of before) (model before) call) r

@@ -1,35 +1,43 @@
 -- The steps of a call, in the words of the plain follower.
-use Rattle.std.specs.Prelude.{◌≡◌, ℕ, suc, Bool, true, ◌&&◌, List, [], ◌∷◌, Some, None, Ok, Err, Option, Result, nat_le}
+use Rattle.std.specs.Prelude.{◌≡◌, ℕ, Bool, true, List, Some, None, Ok, Err, Option, Result}
 use Rattle.codes.specs.declared.refusal.Refusal.{Refusal}
-use Rattle.wire.specs.Numbers.{most32}
-use Rattle.wire.specs.declared.session.Session.{Session}
+use Rattle.codes.specs.declared.refusal.Refusal.TheVariants as refusal
+use Rattle.wire.specs.Names.{Session}
 use Rattle.session.specs.Sessions.{session_messages, opening}
 use Rattle.session.specs.Sessions as session
 use Rattle.session.specs.declared.messages.Opened.{Opened}
 use Rattle.book.specs.declared.rows.BookRow.{BookRow}
 use Rattle.following.specs.States.{Room}
-use Rattle.following.specs.Calls.{Reply}
-use Rattle.following.specs.Follower.{last_of, agrees, of_mode, opened}
-use Rattle.running.specs.declared.moves.Reached.{Reached}
-use Rattle.running.specs.declared.moves.Reached.TheVariants as reached
+use Rattle.following.specs.Calls.{Call, start_at_one, start_by_snapshot, Reply}
+use Rattle.following.specs.Follower.{agrees, of_mode, opened}
+use Rattle.running.specs.Runners.{Reached}
+use Rattle.running.specs.declared.moves.Wanted.{Wanted}
 use Rattle.follower.specs.declared.call.Answer.{Answer}
+use Rattle.follower.specs.declared.state.Started.{Started}
+use Rattle.follower.specs.declared.state.State.{State}
+use Rattle.follower.specs.declared.state.State.TheVariants as state
+use Rattle.follower.specs.Marks.{marked_at}
 use Rattle.follower.specs.Model.{answer_as, rows_with}
 
--- where a book that wants a number stands
-abbrev pub reached_at : Option ℕ → Reached
-reached_at None = reached.NoBook
-reached_at (Some w) = reached.Wanting w
+-- what is started, or the refusal of a call that is for a started follower
+abbrev pub started_in : State → Result Started Refusal
+started_in state.Dark = Err refusal.Dark
+started_in (state.Red stop) = Err refusal.Red
+started_in (state.Started s) = Ok s
 
--- the highest number is one that there can be, and the wanted number at most one above it
+-- a start's wanted number is 1, if it has a book
+abbrev pub StartsAtOne : Option Wanted → Type 0
+StartsAtOne None = Unit {0}
+StartsAtOne (Some w) = w.number ≡ 1
+
+abbrev pub start_of : Option Wanted → Call
+start_of None = start_by_snapshot
+start_of (Some w) = start_at_one
+
+-- the bounds of the numbers where messages have led
 abbrev pub bounded_by : Reached → ℕ → Bool
-bounded_by reached.NoBook highest = nat_le highest most32
-bounded_by (reached.Wanting w) highest = nat_le w (suc highest) && nat_le highest most32
-bounded_by (reached.Stopped n cause) highest = true
-
--- the last number of a packet that has messages
-abbrev pub LastOf : ℕ → List (List ℕ) → ℕ → Type 0
-LastOf number [] last = Unit {0}
-LastOf number (m ∷ ms) last = last ≡ last_of number (m ∷ ms)
+bounded_by (Ok wanted) highest = marked_at wanted highest
+bounded_by (Err stop) highest = true
 
 -- what opens as a snapshot, or the refusal that it meets
 abbrev pub Opens : Option Session → List ℕ → Result Opened Refusal → Type 0

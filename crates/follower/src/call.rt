@@ -2,7 +2,8 @@
 use codes::{EventCode, Lamp, ShortSell, Side, Trading};
 use following::{Counts, Ending};
 
-/// A question that the book answers. A stock is named by the bytes of its symbol.
+/// A question that the book answers: the last event, a stock's two states, or the orders of a stock's side. A stock is
+/// named by the bytes of its symbol.
 #[derive(Clone, Copy)]
 pub enum Question<'c> {
     Event,

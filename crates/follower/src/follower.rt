@@ -1,6 +1,6 @@
 // The follower, and what holds of it between any two calls.
 ghost use Rattle.std.specs.Prelude.{◌≡◌, List};
-ghost use Rattle.running.specs.Runners.{Ready, room_of, book_in, held_in};
+ghost use Rattle.running.specs.Runners.{room_of, book_in, held_in};
 ghost use Rattle.follower.specs.Modelled.{modelled, Reachable};
 
 use crate::state::State;
@@ -15,8 +15,6 @@ mod steps;
 pub struct Follower<'a, 'b> {
     runner: Runner<'a, 'b>,
     state: State,
-    // the held messages stand in order
-    ghost ready: { Ready runner },
     // some history of calls on a new follower led here
     ghost reached: { ∥ Reachable (room_of runner) (modelled state (book_in runner) (held_in runner)) ∥₁ },
 }

@@ -3,7 +3,6 @@
 
 mod call;
 mod follower;
-mod marks;
 mod state;
 
 pub use call::{Answer, Call, Question};

@@ -1,6 +1,7 @@
 // Stops and new starts, from every lamp.
-use crate::walk::{DONE, Step, Turn, walk};
-use codes::{Cause, Lamp};
+use crate::walk::Said::{Done, Taken};
+use crate::walk::{Step, Turn, walk};
+use codes::{Cause, Lamp, Refusal};
 use std::process::Abort;
 use std::test::Fail;
 
@@ -10,17 +11,17 @@ fn begin_again(rt: &impl Abort, first: &[Turn<'_>]) -> Result<(), Fail> {
         rt,
         first,
         &[
-            (Step::StartBySnapshot, DONE, Lamp::Waiting),
+            (Step::StartBySnapshot, Ok(Done), Lamp::Waiting),
             (
                 Step::Packet(b"\0\0\0\x09\0\x002010090301"),
-                DONE,
+                Ok(Taken(0)),
                 Lamp::Waiting,
             ),
-            (Step::Stop, DONE, Lamp::Dark),
-            (Step::StartAtOne, DONE, Lamp::Waiting),
+            (Step::Stop, Ok(Done), Lamp::Dark),
+            (Step::StartAtOne, Ok(Done), Lamp::Waiting),
             (
                 Step::Packet(b"\0\0\0\x02\0\x002010090300"),
-                DONE,
+                Ok(Taken(0)),
                 Lamp::Gap {
                     wanted: 1,
                     heard: 1,
@@ -28,7 +29,7 @@ fn begin_again(rt: &impl Abort, first: &[Turn<'_>]) -> Result<(), Fail> {
             ),
             (
                 Step::Packet(b"\0\0\0\x01\0\x01\0\x05....T"),
-                (0, 1, ' '),
+                Ok(Taken(1)),
                 Lamp::Green { wanted: 2 },
             ),
         ],
@@ -42,10 +43,10 @@ fn from_dark(rt: HostRuntime) -> Result<(), Fail> {
         &[
             (
                 Step::Packet(b"\0\0\0\x01\0\x01\0\x05....T"),
-                (1, 0, ' '),
+                Err(Refusal::Dark),
                 Lamp::Dark,
             ),
-            (Step::Stop, (1, 0, ' '), Lamp::Dark),
+            (Step::Stop, Err(Refusal::Dark), Lamp::Dark),
         ],
     )
 }
@@ -55,16 +56,16 @@ fn from_red(rt: HostRuntime) -> Result<(), Fail> {
     begin_again(
         &rt,
         &[
-            (Step::StartAtOne, DONE, Lamp::Waiting),
+            (Step::StartAtOne, Ok(Done), Lamp::Waiting),
             (
                 Step::Packet(b"\0\0\0\x01\0\x01\0\x06....T."),
-                (0, 1, ' '),
+                Ok(Taken(1)),
                 Lamp::Red {
                     number: 1,
                     cause: Cause::Length,
                 },
             ),
-            (Step::Stop, DONE, Lamp::Dark),
+            (Step::Stop, Ok(Done), Lamp::Dark),
         ],
     )
 }
@@ -74,13 +75,13 @@ fn from_waiting(rt: HostRuntime) -> Result<(), Fail> {
     begin_again(
         &rt,
         &[
-            (Step::StartBySnapshot, DONE, Lamp::Waiting),
+            (Step::StartBySnapshot, Ok(Done), Lamp::Waiting),
             (
                 Step::Packet(b"\0\0\0\x02\0\x01\0\x05....T"),
-                (0, 1, ' '),
+                Ok(Taken(1)),
                 Lamp::Waiting,
             ),
-            (Step::Stop, DONE, Lamp::Dark),
+            (Step::Stop, Ok(Done), Lamp::Dark),
         ],
     )
 }
@@ -90,16 +91,16 @@ fn from_gap(rt: HostRuntime) -> Result<(), Fail> {
     begin_again(
         &rt,
         &[
-            (Step::StartAtOne, DONE, Lamp::Waiting),
+            (Step::StartAtOne, Ok(Done), Lamp::Waiting),
             (
                 Step::Packet(b"\0\0\0\x02\0\x01\0\x05....T"),
-                (0, 1, ' '),
+                Ok(Taken(1)),
                 Lamp::Gap {
                     wanted: 1,
                     heard: 2,
                 },
             ),
-            (Step::Stop, DONE, Lamp::Dark),
+            (Step::Stop, Ok(Done), Lamp::Dark),
         ],
     )
 }
@@ -109,13 +110,13 @@ fn from_green(rt: HostRuntime) -> Result<(), Fail> {
     begin_again(
         &rt,
         &[
-            (Step::StartAtOne, DONE, Lamp::Waiting),
+            (Step::StartAtOne, Ok(Done), Lamp::Waiting),
             (
                 Step::Packet(b"\0\0\0\x01\0\x01\0\x05....T"),
-                (0, 1, ' '),
+                Ok(Taken(1)),
                 Lamp::Green { wanted: 2 },
             ),
-            (Step::Stop, DONE, Lamp::Dark),
+            (Step::Stop, Ok(Done), Lamp::Dark),
         ],
     )
 }

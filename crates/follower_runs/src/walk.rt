@@ -1,9 +1,6 @@
 // Calls on one new follower, in turn.
-ghost use Rattle.recovery.specs.Recoveries.{Agrees};
-ghost use Rattle.follower.specs.Model.{SourcesAgree};
-
 use book::{Book, BookRow, Stock};
-use codes::{Lamp, Refusal, Side};
+use codes::{EventCode, Lamp, Refusal, Side, Trading};
 use follower::{Answer, Call, Follower, Question};
 use following::Ending;
 use recovery::Recovery;
@@ -12,6 +9,7 @@ use std::process::Abort;
 use std::test::Fail;
 use wire::{OrderRow, Symbol};
 
+// A call as a constant can hold it: a `Call` borrows its source, and a step has the bytes of one.
 #[derive(Clone, Copy)]
 pub enum Step<'a> {
     StartAtOne,
@@ -21,78 +19,57 @@ pub enum Step<'a> {
     Snapshot(&'a [u8]),
     // from a recovery session, with a budget
     Repair(&'a [u8], u32),
+    Lamp,
+    // each question is a step of its own, so that a turn fits a line
     Event,
     States(&'a [u8]),
     // into one lent row
     Orders(&'a [u8], Side),
 }
 
-// The number of a refusal, or 0; a count: messages taken or fetched, the number of an End, or rows; and a letter: that of
-// a snapshot's cause, of how a repair ended, of the event code or of a trading state.
-pub type Told = (u8, u32, char);
-
-pub const DONE: Told = (0, 0, ' ');
-
-// A step, what it is told, and the lamp after it.
-pub type Turn<'a> = (Step<'a>, Told, Lamp);
-
-fn ending_letter(ending: Ending) -> char {
-    match ending {
-        Ending::Red => 'R',
-        Ending::Green => 'G',
-        Ending::Budget => 'B',
-        Ending::NotHeld => 'N',
-    }
+// What an accepted step is told: of an answer only what the turns name.
+#[derive(Clone, Copy, PartialEq, Eq)]
+pub enum Said {
+    Done,
+    // so many messages of a packet were taken
+    Taken(u16),
+    // the number that a snapshot's End told
+    Next(u32),
+    // so many messages were fetched
+    Repaired(u32, Ending),
+    Lamp(Lamp),
+    Event(Option<EventCode>),
+    // the trading state
+    Trading(Option<Trading>),
+    // so many rows
+    Orders(usize),
 }
 
-fn told_by(answer: Result<Answer, Refusal>) -> Told {
-    match answer {
-        Ok(Answer::Counted(counts)) => (0, u32::from(counts.taken), ' '),
-        Ok(Answer::Snapshot(next)) => (0, next, ' '),
-        Ok(Answer::Repaired { fetched, ending }) => (0, fetched, ending_letter(ending)),
-        Ok(Answer::Orders(rows)) => (0, rows.min(9) as u32, ' '),
-        Ok(Answer::Event(Some(code))) => (0, 0, code.letter()),
-        Ok(Answer::States(Some(trading), _)) => (0, 0, trading.letter()),
-        Ok(_) => DONE,
-        Err(refusal) => {
-            let (count, letter) = named_by(refusal);
-            (refusal.number(), count, letter)
+impl From<Answer> for Said {
+    fn from(answer: Answer) -> Said {
+        match answer {
+            Answer::Done => Said::Done,
+            Answer::Counted(counts) => Said::Taken(counts.taken),
+            Answer::Snapshot(next) => Said::Next(next),
+            Answer::Repaired { fetched, ending } => Said::Repaired(fetched, ending),
+            Answer::Lamp(lamp) => Said::Lamp(lamp),
+            Answer::Event(code) => Said::Event(code),
+            Answer::States(trading, _) => Said::Trading(trading),
+            Answer::Orders(rows) => Said::Orders(rows),
         }
     }
 }
 
-// The rows that are needed, and the letter of a snapshot's cause.
-fn named_by(refusal: Refusal) -> (u32, char) {
-    match refusal {
-        Refusal::SnapshotStopped(cause) => (0, cause.letter()),
-        Refusal::TooFewRows(rows) => (rows.min(9) as u32, ' '),
-        _ => (0, ' '),
-    }
-}
+// What a step is told, or its refusal.
+pub type Told = Result<Said, Refusal>;
 
-// The call of a step; a repair brings a source, and is made elsewhere.
-fn plain<'c>(step: Step<'c>) -> Call<'c, Recovery<'c>>
-    ensures { SourcesAgree Agrees result }
-{
-    match step {
-        Step::StartAtOne => Call::StartAtOne,
-        Step::StartBySnapshot => Call::StartBySnapshot,
-        Step::Stop => Call::Stop,
-        Step::Packet(bytes) => Call::Packet(bytes),
-        Step::Snapshot(bytes) => Call::Snapshot(bytes),
-        Step::Event => Call::Ask(Question::Event),
-        Step::States(symbol) => Call::Ask(Question::States(symbol)),
-        Step::Orders(symbol, side) => Call::Ask(Question::Orders(symbol, side)),
-        Step::Repair(..) => show(),
-    }
-}
+// A step, what it is told, and the lamp after it.
+pub type Turn<'a> = (Step<'a>, Told, Lamp);
 
 fn call(
     follower: &mut Follower<'_, '_>,
     call: &mut Call<'_, Recovery<'_>>,
-) -> Result<Answer, Refusal>
-    requires { SourcesAgree Agrees call.old }
-{
+) -> Result<Answer, Refusal> {
     let mut rows = [BookRow {
         reference: 0,
         shares: 0,
@@ -101,44 +78,29 @@ fn call(
     follower.call(call, &mut rows)
 }
 
-fn repair(follower: &mut Follower<'_, '_>, bytes: &[u8], budget: u32) -> Result<Answer, Refusal> {
-    let mut source = Recovery::open(bytes)?;
-    call(follower, &mut Call::Repair(&mut source, budget))
-}
-
 fn make(follower: &mut Follower<'_, '_>, step: Step<'_>) -> Result<Answer, Refusal> {
-    if let Step::Repair(bytes, budget) = step {
-        return repair(follower, bytes, budget);
+    match step {
+        Step::StartAtOne => call(follower, &mut Call::StartAtOne),
+        Step::StartBySnapshot => call(follower, &mut Call::StartBySnapshot),
+        Step::Stop => call(follower, &mut Call::Stop),
+        Step::Packet(bytes) => call(follower, &mut Call::Packet(bytes)),
+        Step::Snapshot(bytes) => call(follower, &mut Call::Snapshot(bytes)),
+        Step::Repair(bytes, budget) => {
+            let mut source = Recovery::open(bytes)?;
+            call(follower, &mut Call::Repair(&mut source, budget))
+        }
+        Step::Lamp => call(follower, &mut Call::Lamp),
+        Step::Event => call(follower, &mut Call::Ask(Question::Event)),
+        Step::States(symbol) => call(follower, &mut Call::Ask(Question::States(symbol))),
+        Step::Orders(symbol, side) => call(
+            follower,
+            &mut Call::Ask(Question::Orders(symbol, side)),
+        ),
     }
-    let mut made = plain(step);
-    call(follower, &mut made)
 }
 
-fn show<'c>() -> Call<'c, Recovery<'c>>
-    ensures { SourcesAgree Agrees result }
-{
-    Call::Lamp
-}
-
-fn lamp(follower: &mut Follower<'_, '_>) -> Option<Lamp> {
-    let mut show = show();
-    match call(follower, &mut show) {
-        Ok(Answer::Lamp(lamp)) => Some(lamp),
-        _ => None,
-    }
-}
-
-fn take(rt: &impl Abort, book: &mut Book<'_>, first: &[Turn<'_>], then: &[Turn<'_>]) {
-    let mut held = [HeldRow::EMPTY; 3];
-    let mut follower = Follower::new(book, &mut held);
-    for (step, told, shown) in first {
-        assert!(rt; told_by(make(&mut follower, *step)) == *told);
-        assert!(rt; lamp(&mut follower) == Some(*shown));
-    }
-    for (step, told, shown) in then {
-        assert!(rt; told_by(make(&mut follower, *step)) == *told);
-        assert!(rt; lamp(&mut follower) == Some(*shown));
-    }
+fn tell(follower: &mut Follower<'_, '_>, step: Step<'_>) -> Told {
+    make(follower, step).map(Said::from)
 }
 
 // Takes turns on a new follower with slots for one stock, two orders and three held messages.
@@ -152,7 +114,15 @@ pub fn walk(rt: &impl Abort, first: &[Turn<'_>], then: &[Turn<'_>]) -> Result<()
         symbol,
         price: 0,
     }; 2];
+    let mut held = [HeldRow::EMPTY; 3];
     let mut book = Book::new(&mut stocks, &mut orders);
-    take(rt, &mut book, first, then);
+    let mut follower = Follower::new(&mut book, &mut held);
+    for (at, (step, told, lamp)) in first.iter().chain(then).enumerate() {
+        assert!(rt; tell(&mut follower, *step) == *told, "at turn {at}");
+        assert!(rt;
+            tell(&mut follower, Step::Lamp) == Ok(Said::Lamp(*lamp)),
+            "after turn {at}"
+        );
+    }
     Ok(())
 }

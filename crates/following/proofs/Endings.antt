@@ -4,25 +4,11 @@ use borrow.Author.Tests.{lt-leb}
 use Rattle.codes.specs.declared.cause.Cause.{Cause}
 use Rattle.codes.specs.declared.lamp.Lamp.TheVariants as lamp
 use Rattle.codes.specs.declared.refusal.Refusal.TheVariants as refusal
-use Rattle.wire.specs.declared.session.Session.{Session}
+use Rattle.wire.specs.Names.{Session}
 use Rattle.source.specs.Meanings.{Meaning}
 use Rattle.book.specs.Plain.{Plain, ran}
 use Rattle.following.specs.States.{Room, Held, Wanting, State, dark, red, started, lamp_at, lamp_of}
-use Rattle.following.specs.Calls.{
-  repair,
-  Reply,
-  done,
-  counted,
-  snapshot_taken,
-  repaired,
-  lamp_shown,
-  event_is,
-  states_are,
-  orders_are,
-  Outcome,
-  refused,
-  accepted,
-}
+use Rattle.following.specs.Calls.{repair, Reply, repaired, Outcome, refused, accepted}
 use Rattle.following.specs.Follower.{
   Place,
   bookless,
@@ -95,14 +81,13 @@ module _ (room : Room) (source : Meaning) (k : ℕ) where
   Told budget n r = (r.fetched ≤ budget) × Ended budget n r.fetched r.place r.ending
 
   one_more : (budget n f : ℕ) (p : Place) (how : Ending) → Ended budget (suc n) f p how → Ended (suc budget) n (suc f) p how
-  one_more budget n f (bookless hs) how e = e
-  one_more budget n f (stopped i c) how e = e
   one_more budget n f (wanting b hs) how e = (omega arith, go e.1)
     where
       go : Ways budget f b.wanted how → Ways (suc budget) (suc f) b.wanted how
       go (inl w) = inl w
       go (inr (inl w)) = inr (inl (w.0, omega arith, w.2))
       go (inr (inr w)) = inr (inr w)
+  one_more budget n f p how e = e
 
   pub mended_told : (budget n : ℕ) (p : Place) → Reach n p → Told budget n (mended room source.held k budget p)
   unfolding mended
@@ -146,11 +131,11 @@ module _ (room : Room) (source : Meaning) (k : ℕ) where
   honest s budget n f (stopped i c) how l e =
       record {
         within = l;
-        green = λ q. let z : ◌≡◌ {A = ℕ} 0 1 = cc in absurd (omega arith);
+        green = λ q. absurd cc;
         stopped = λ q. (i, c, refl);
         only_stopped = λ j d q. e;
-        spent = λ q. let z : ◌≡◌ {A = ℕ} 0 1 = cc in absurd (omega arith);
-        lacking = λ q. let z : ◌≡◌ {A = ℕ} 0 1 = cc in absurd (omega arith);
+        spent = λ q. absurd cc;
+        lacking = λ q. absurd cc;
       }
   honest s budget n f (wanting b hs) how l e = go e.1
     where
@@ -160,29 +145,29 @@ module _ (room : Room) (source : Meaning) (k : ℕ) where
           record {
             within = l;
             green = λ q. (b.wanted, green_at b s hs w.1);
-            stopped = λ q. let z : ◌≡◌ {A = ℕ} 0 1 = cc in absurd (omega arith);
-            only_stopped = λ j d q. let z : ◌≡◌ {A = ℕ} 0 1 = cc in absurd (omega arith);
-            spent = λ q. let z : ◌≡◌ {A = ℕ} 0 1 = cc in absurd (omega arith);
-            lacking = λ q. let z : ◌≡◌ {A = ℕ} 0 1 = cc in absurd (omega arith);
+            stopped = λ q. absurd cc;
+            only_stopped = λ j d q. absurd cc;
+            spent = λ q. absurd cc;
+            lacking = λ q. absurd cc;
           }
       go (inr (inl w)) =
           let h : how ≡ ending.Budget = w.0 in
           record {
             within = l;
-            green = λ q. let z : ◌≡◌ {A = ℕ} 0 1 = cc in absurd (omega arith);
-            stopped = λ q. let z : ◌≡◌ {A = ℕ} 0 1 = cc in absurd (omega arith);
-            only_stopped = λ j d q. let z : ◌≡◌ {A = ℕ} 0 1 = cc in absurd (omega arith);
+            green = λ q. absurd cc;
+            stopped = λ q. absurd cc;
+            only_stopped = λ j d q. absurd cc;
             spent = λ q. (w.1, (b.wanted, k, gap_at b s hs w.2));
-            lacking = λ q. let z : ◌≡◌ {A = ℕ} 0 1 = cc in absurd (omega arith);
+            lacking = λ q. absurd cc;
           }
       go (inr (inr w)) =
           let h : how ≡ ending.NotHeld = w.0 in
           record {
             within = l;
-            green = λ q. let z : ◌≡◌ {A = ℕ} 0 1 = cc in absurd (omega arith);
-            stopped = λ q. let z : ◌≡◌ {A = ℕ} 0 1 = cc in absurd (omega arith);
-            only_stopped = λ j d q. let z : ◌≡◌ {A = ℕ} 0 1 = cc in absurd (omega arith);
-            spent = λ q. let z : ◌≡◌ {A = ℕ} 0 1 = cc in absurd (omega arith);
+            green = λ q. absurd cc;
+            stopped = λ q. absurd cc;
+            only_stopped = λ j d q. absurd cc;
+            spent = λ q. absurd cc;
             lacking = λ q. (b.wanted, k, gap_at b s hs w.1, w.2);
           }
 
@@ -205,14 +190,8 @@ fetched_left room source s b hs k budget f (wanting b' hs') how o o' e n =
 -- P holds of what an outcome answers of a repair
 module _ (P : State → ℕ → Ending → Type 0) where
   abbrev Replied : State → Reply → Type 0
-  Replied next done = Unit {0}
-  Replied next (counted c) = Unit {0}
-  Replied next (snapshot_taken n) = Unit {0}
   Replied next (repaired fetched how) = P next fetched how
-  Replied next (lamp_shown l) = Unit {0}
-  Replied next (event_is code) = Unit {0}
-  Replied next (states_are both) = Unit {0}
-  Replied next (orders_are rows) = Unit {0}
+  Replied next reply = Unit {0}
 
   abbrev So : Outcome → Type 0
   So (refused why) = Unit {0}

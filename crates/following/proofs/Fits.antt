@@ -29,7 +29,7 @@ use Rattle.following.proofs.Held.{Mine, with_mine}
 -- numbers from s on
 pub numbered_least : (xs : List (List ℕ)) (s k : ℕ) (x : List ℕ) → numbered_from s xs k ≡ Some x → s ≤ k
 unfolding numbered_from
-numbered_least [] s k x e = absurd (let z : ◌≡◌ {A = ℕ} 0 1 = cc in omega arith)
+numbered_least [] s k x e = absurd cc
 numbered_least (y ∷ ys) s k x e = go (eqb k s) refl (numbered_least ys (s + 1) k x) e
   where
     go : (t : Bool) → eqb k s ≡ t → (numbered_from (s + 1) ys k ≡ Some x → s + 1 ≤ k) → cond t (Some y) (numbered_from (s + 1) ys k) ≡ Some x → s ≤ k
@@ -38,7 +38,7 @@ numbered_least (y ∷ ys) s k x e = go (eqb k s) refl (numbered_least ys (s + 1)
 
 pub numbered_most : (xs : List (List ℕ)) (s k : ℕ) (x : List ℕ) → numbered_from s xs k ≡ Some x → suc k ≤ s + length xs
 unfolding numbered_from
-numbered_most [] s k x e = absurd (let z : ◌≡◌ {A = ℕ} 0 1 = cc in omega arith)
+numbered_most [] s k x e = absurd cc
 numbered_most (y ∷ ys) s k x e = go (eqb k s) refl (numbered_most ys (s + 1) k x) e
   where
     go : (t : Bool) → eqb k s ≡ t → (numbered_from (s + 1) ys k ≡ Some x → suc k ≤ s + 1 + length ys) → cond t (Some y) (numbered_from (s + 1) ys k) ≡ Some x → suc k ≤ s + length (y ∷ ys)
@@ -137,10 +137,7 @@ module _ (room : Room) (d : Day) where
   pub mended_fits : (source : ℕ → Option (List ℕ)) (k n : ℕ) (p : Place) → Honest source → Fits p → Fits (mended room source k n p).place
   unfolding mended
   mended_fits source k zero (bookless hs) t f = f
-  mended_fits source k zero (wanting b hs) t f = f
-  mended_fits source k zero (stopped i c) t f = f
-  mended_fits source k (suc n) (bookless hs) t f = f
-  mended_fits source k (suc n) (stopped i c) t f = f
+  mended_fits source k zero p t f = f
   mended_fits source k (suc n) (wanting b hs) t f =
       go (leb b.wanted k) (source b.wanted) refl (λ x. mended_fits source k n (run_wanted room b x hs) t)
     where
@@ -152,3 +149,4 @@ module _ (room : Room) (d : Day) where
       go false o r ih = f
       go true None r ih = f
       go true (Some x) r ih = ih x (run_wanted_fits hs b x f (t b.wanted x r))
+  mended_fits source k (suc n) p t f = f

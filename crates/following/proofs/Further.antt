@@ -16,26 +16,7 @@ use Rattle.following.specs.Calls.{
   refused,
   accepted,
 }
-use Rattle.following.specs.Follower.{
-  Place,
-  place_of,
-  agrees,
-  Fate,
-  taken,
-  repeated,
-  dropped,
-  unread,
-  count_one,
-  no_counts,
-  treated,
-  counts_of,
-  on_packet,
-  while_started,
-  while_dark,
-  while_red,
-  outcome,
-  moved,
-}
+use Rattle.following.specs.Follower.{Place, place_of, agrees, Fate, taken, count_one, no_counts, treated, counts_of, on_packet, while_started, while_dark, while_red, outcome, moved}
 use Rattle.following.specs.Days.{after, since, highest_in}
 use Rattle.following.specs.Law.{
   RefusalsChangeNothing,
@@ -63,9 +44,7 @@ sum_of c = c.taken + c.repeated + c.dropped + c.unread
 
 one_counted : (f : Fate) (c : Counts) → sum_of (count_one f c) ≡ suc (sum_of c)
 one_counted taken c = omega arith
-one_counted repeated c = omega arith
-one_counted dropped c = omega arith
-one_counted unread c = omega arith
+one_counted fate c = omega arith
 
 counts_sum : (room : Room) (ms : List (List ℕ)) (p : Place) (k : ℕ) → sum_of (counts_of room p k ms) ≡ length ms
 unfolding counts_of
@@ -80,10 +59,10 @@ CountedTo n o = (next : State) (c : Counts) → o ≡ accepted next (counted c) 
 
 heartbeat_sum : (t : Bool) (after : State) → CountedTo 0 (cond t (accepted after (counted no_counts)) (refused refusal.OtherSession))
 heartbeat_sum true after next c e = let same : no_counts ≡ c = cc in ap sum_of (sym same)
-heartbeat_sum false after next c e = let z : ◌≡◌ {A = ℕ} 0 1 = cc in absurd (omega arith)
+heartbeat_sum false after next c e = absurd cc
 
 packet_sum : (room : Room) (s : Started) (r : Result Sent Refusal) → CountedTo (message_count r) (on_packet room s r)
-packet_sum room s (Err why) next c e = let z : ◌≡◌ {A = ℕ} 0 1 = cc in absurd (omega arith)
+packet_sum room s (Err why) next c e = absurd cc
 packet_sum room s (Ok (heartbeat n session)) next c e = heartbeat_sum (agrees s.session session) _ next c e
 packet_sum room s (Ok (messages number ms)) next c e =
     let same : counts_of room (place_of s.book s.held) number ms ≡ c = cc in
@@ -91,8 +70,8 @@ packet_sum room s (Ok (messages number ms)) next c e =
 
 pub counts_add_up : CountsAddUp
 unfolding outcome while_started while_dark while_red
-counts_add_up room dark next bytes c e = let z : ◌≡◌ {A = ℕ} 0 1 = cc in absurd (omega arith)
-counts_add_up room (red k cause) next bytes c e = let z : ◌≡◌ {A = ℕ} 0 1 = cc in absurd (omega arith)
+counts_add_up room dark next bytes c e = absurd cc
+counts_add_up room (red k cause) next bytes c e = absurd cc
 counts_add_up room (started s) next bytes c e = packet_sum room s (packet_of bytes) next c e
 
 pub wanted_bounded : WantedBounded
@@ -128,7 +107,7 @@ stops_forget room later history =
       none,
     )
 
-shown_at : (room : Room) (s : State) → outcome room s show_lamp ≡ accepted s (lamp_shown (lamp_of s))
+pub shown_at : (room : Room) (s : State) → outcome room s show_lamp ≡ accepted s (lamp_shown (lamp_of s))
 unfolding outcome while_started while_dark while_red
 shown_at room dark = refl
 shown_at room (red k cause) = refl
@@ -142,7 +121,7 @@ highest_heard room history s e = (subst (Tidy (highest_in room (since room histo
 
 heartbeat_taken : (t : Bool) (next : State) → t ≡ true → IsCounted (cond t (accepted next (counted no_counts)) (refused refusal.OtherSession))
 heartbeat_taken true next e = (next, no_counts, refl)
-heartbeat_taken false next e = let z : ◌≡◌ {A = ℕ} 0 1 = cc in absurd (omega arith)
+heartbeat_taken false next e = absurd cc
 
 packet_taken : (room : Room) (s : Started) (r : Result Sent Refusal) → Readable s.session r → IsCounted (on_packet room s r)
 packet_taken room s (Err why) ok = absurd ok

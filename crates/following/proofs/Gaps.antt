@@ -5,8 +5,8 @@ use Rattle.std.proofs.lemmas.Bool.{cases_order, cases_lt}
 use Rattle.std.specs.Cmp.{nat_cmp_is, nat_cmp_total}
 use Rattle.codes.specs.declared.cause.Cause.{Cause}
 use Rattle.codes.specs.declared.lamp.Lamp.TheVariants as lamp
-use Rattle.wire.specs.declared.session.Session.{Session}
-use Rattle.table.proofs.Laws.{found_placed, found_placed_other, found_onward, total_lawful}
+use Rattle.wire.specs.Names.{Session}
+use Rattle.table.proofs.Laws.{found_placed, found_placed_other, found_onward}
 use Rattle.book.specs.Keys.{by_number}
 use Rattle.book.specs.Plain.{Plain, ran}
 use Rattle.following.specs.States.{
@@ -25,29 +25,7 @@ use Rattle.following.specs.States.{
   lamp_of,
 }
 use Rattle.following.specs.Calls.{Call}
-use Rattle.following.specs.Follower.{
-  Place,
-  bookless,
-  wanting,
-  stopped,
-  place_of,
-  settled,
-  Fate,
-  taken,
-  repeated,
-  dropped,
-  unread,
-  count_one,
-  going_on,
-  run_held,
-  run_wanted,
-  treated,
-  place_after,
-  counts_of,
-  ends,
-  fetching,
-  mended,
-}
+use Rattle.following.specs.Follower.{Place, bookless, wanting, stopped, place_of, settled, Fate, taken, repeated, dropped, count_one, going_on, run_held, run_wanted, treated, place_after, counts_of, ends, fetching, mended}
 use Rattle.following.specs.Days.{after, since, highest_in}
 use Rattle.following.specs.Law.{Carries, Carried, NoNeedlessGap}
 use Rattle.following.specs.declared.answers.Counts.{Counts}
@@ -68,30 +46,30 @@ equal_key a b e = sym (nat_cmp_is a b Equal e)
 
 held_now : (k : ℕ) (x : List ℕ) (hs : List Held) → is_held k (with_held k x hs) ≡ true
 held_now k x hs =
-    ap is_some (found_placed number_of by_number (total_lawful nat_cmp_total) (record { number = k; bytes = x }) hs k (equal_key k k refl))
+    ap is_some (found_placed number_of by_number nat_cmp_total (record { number = k; bytes = x }) hs k (equal_key k k refl))
 
 held_still : (j k : ℕ) (x : List ℕ) (hs : List Held) → is_held j hs ≡ true → is_held j (with_held k x hs) ≡ true
 held_still j k x hs h = go (by_number k j) refl
   where
     other : (by_number k j ≡ Equal → ⊥) → is_held j (with_held k x hs) ≡ true
-    other n = ap is_some (found_placed_other number_of by_number (total_lawful nat_cmp_total) (record { number = k; bytes = x }) hs j n) ∙ h
+    other n = ap is_some (found_placed_other number_of by_number nat_cmp_total (record { number = k; bytes = x }) hs j n) ∙ h
 
     go : (r : Ordering) → by_number k j ≡ r → is_held j (with_held k x hs) ≡ true
-    go Less e = other (λ q. let z : ◌≡◌ {A = ℕ} 0 1 = cc in omega arith)
-    go Greater e = other (λ q. let z : ◌≡◌ {A = ℕ} 0 1 = cc in omega arith)
+    go Less e = other (λ q. cc)
+    go Greater e = other (λ q. cc)
     go Equal e =
-        ap is_some (found_placed number_of by_number (total_lawful nat_cmp_total) (record { number = k; bytes = x }) hs j e)
+        ap is_some (found_placed number_of by_number nat_cmp_total (record { number = k; bytes = x }) hs j e)
 
 held_beyond : (j n : ℕ) (hs : List Held) → is_held j hs ≡ true → (j < n) ⊎ (is_held j (held_from n hs) ≡ true)
 held_beyond j n hs h = go (by_number j n) refl
   where
     kept_on : (by_number j n ≡ Less → ⊥) → is_held j (held_from n hs) ≡ true
-    kept_on no_less = ap is_some (found_onward number_of by_number (total_lawful nat_cmp_total) n hs j no_less) ∙ h
+    kept_on no_less = ap is_some (found_onward number_of by_number nat_cmp_total n hs j no_less) ∙ h
 
     go : (r : Ordering) → by_number j n ≡ r → (j < n) ⊎ (is_held j (held_from n hs) ≡ true)
     go Less e = inl (ranked j n Less e)
-    go Equal e = inr (kept_on (λ q. let z : ◌≡◌ {A = ℕ} 0 1 = cc in omega arith))
-    go Greater e = inr (kept_on (λ q. let z : ◌≡◌ {A = ℕ} 0 1 = cc in omega arith))
+    go Equal e = inr (kept_on (λ q. cc))
+    go Greater e = inr (kept_on (λ q. cc))
 
 -- a held message is the first, or among the rest
 first_or_rest : (j : ℕ) (h : Held) (hs : List Held) → is_held j (h ∷ hs) ≡ true → (j ≡ h.number) ⊎ (is_held j hs ≡ true)
@@ -171,10 +149,7 @@ module _ (room : Room) (j : ℕ) where
   mended_keeps : (source : ℕ → Option (List ℕ)) (k n : ℕ) (p : Place) → In j p → In j (mended room source k n p).place
   unfolding mended
   mended_keeps source k zero (bookless hs) h = h
-  mended_keeps source k zero (wanting b hs) h = h
-  mended_keeps source k zero (stopped i c) h = tt
-  mended_keeps source k (suc n) (bookless hs) h = h
-  mended_keeps source k (suc n) (stopped i c) h = tt
+  mended_keeps source k zero p h = h
   mended_keeps source k (suc n) (wanting b hs) h =
       go (leb b.wanted k) (source b.wanted) (λ x. mended_keeps source k n (run_wanted room b x hs))
     where
@@ -186,6 +161,7 @@ module _ (room : Room) (j : ℕ) where
       go false o ih = h
       go true None ih = h
       go true (Some x) ih = ih x (in_run_wanted b x hs (later b hs h))
+  mended_keeps source k (suc n) p h = h
 
 -- a message that is not dropped is there afterwards
 module _ (room : Room) where
@@ -220,10 +196,8 @@ module _ (room : Room) where
   treated_has (stopped k c) i x n = tt
 
   one_dropped : (f : Fate) (c : Counts) → (count_one f c).dropped ≡ 0 → (f ≡ dropped → ⊥) × (c.dropped ≡ 0)
-  one_dropped taken c e = ((λ q. let z : ◌≡◌ {A = ℕ} 0 1 = cc in omega arith), e)
-  one_dropped repeated c e = ((λ q. let z : ◌≡◌ {A = ℕ} 0 1 = cc in omega arith), e)
-  one_dropped unread c e = ((λ q. let z : ◌≡◌ {A = ℕ} 0 1 = cc in omega arith), e)
   one_dropped dropped c e = absurd (omega arith)
+  one_dropped fate c e = ((λ q. cc), e)
 
   place_after_has :
       (ms : List (List ℕ)) (p : Place) (k j : ℕ) → (counts_of room p k ms).dropped ≡ 0 → k ≤ j → suc j ≤ k + length ms → In j (place_after room p k ms)
@@ -286,20 +260,20 @@ module _ (room : Room) where
   gap_not_in :
       (b : Option Wanting) (heard : Bool) (h : ℕ) (hs : List Held) (w k : ℕ) →
       Shape h (place_of b hs) → lamp_at b heard h ≡ lamp.Gap w k → In w (place_of b hs) → ⊥
-  gap_not_in None heard h hs w k o e i = let z : ◌≡◌ {A = ℕ} 0 1 = cc in omega arith
-  gap_not_in (Some b) false h hs w k o e i = let z : ◌≡◌ {A = ℕ} 0 1 = cc in omega arith
+  gap_not_in None heard h hs w k o e i = cc
+  gap_not_in (Some b) false h hs w k o e i = cc
   gap_not_in (Some b) true h hs w k o e i = go (leb b.wanted h) e
     where
       go : (t : Bool) → cond t (lamp.Gap b.wanted h) (lamp.Green b.wanted) ≡ lamp.Gap w k → ⊥
-      go false e' = let z : ◌≡◌ {A = ℕ} 0 1 = cc in omega arith
+      go false e' = cc
       go true e' =
           let same : b.wanted ≡ w = cc in
           ⊎_elim (λ l. omega arith) (λ q. both_ways (is_held w hs) (ordered_not_held hs b.wanted h w (omega arith) o.1) q) i
 
   gap_at : (top : ℕ) (s : State) (w k : ℕ) → Tidy top s → lamp_of s ≡ lamp.Gap w k → Has w s → ⊥
   unfolding lamp_of
-  gap_at top dark w k t e i = let z : ◌≡◌ {A = ℕ} 0 1 = cc in omega arith
-  gap_at top (red n c) w k t e i = let z : ◌≡◌ {A = ℕ} 0 1 = cc in omega arith
+  gap_at top dark w k t e i = cc
+  gap_at top (red n c) w k t e i = cc
   gap_at top (started s) w k t e i = gap_not_in s.book s.heard s.highest s.held w k t.1 e i
 
 pub no_needless_gap : NoNeedlessGap

@@ -6,7 +6,7 @@ use Rattle.codes.specs.declared.lamp.Lamp.TheVariants as lamp
 use Rattle.codes.specs.declared.refusal.Refusal.{Refusal}
 use Rattle.codes.specs.declared.refusal.Refusal.TheVariants as refusal
 use Rattle.wire.specs.Packets.{Sent, heartbeat, messages, packet_of}
-use Rattle.wire.specs.declared.session.Session.{Session}
+use Rattle.wire.specs.Names.{Session}
 use Rattle.source.specs.Meanings.{Meaning}
 use Rattle.following.specs.States.{Room, Wanting, Started, State, dark, red, started, begun, from_one, lamp_at, held_from}
 use Rattle.following.specs.Calls.{
@@ -115,10 +115,7 @@ module _ (room : Room) where
           (unless_waiting room l
           (on_mended room source.session s.highest (mended room source.held s.highest budget (place_of s.book s.held))))
       repair_holds source budget lamp.Waiting = ih
-      repair_holds source budget lamp.Dark = k.by_repair cs n s source budget ih
-      repair_holds source budget (lamp.Red i c) = k.by_repair cs n s source budget ih
-      repair_holds source budget (lamp.Gap w h) = k.by_repair cs n s source budget ih
-      repair_holds source budget (lamp.Green w) = k.by_repair cs n s source budget ih
+      repair_holds source budget shown = k.by_repair cs n s source budget ih
 
       told_holds : (q : Question) (r : Result Reply Refusal) → Holds (ask q) (started s) (told (started s) r)
       told_holds q (Ok reply) = k.by_question cs n (started s) q ih
@@ -126,11 +123,7 @@ module _ (room : Room) where
 
       question_holds : (q : Question) (l : Lamp) (b : Option Wanting) → Holds (ask q) (started s) (on_question room l b (started s) q)
       question_holds q (lamp.Green w) (Some b) = told_holds q (answered b.book q)
-      question_holds q (lamp.Green w) None = ih
-      question_holds q lamp.Waiting b = ih
-      question_holds q lamp.Dark b = ih
-      question_holds q (lamp.Red i c) b = ih
-      question_holds q (lamp.Gap w h) b = ih
+      question_holds q shown b = ih
 
       started_holds : (c : Call) → Holds c (started s) (while_started room s c)
       unfolding while_started
@@ -149,23 +142,14 @@ module _ (room : Room) where
     unfolding while_dark
     dark_holds start_at_one = k.at_one
     dark_holds start_by_snapshot = k.at_none
-    dark_holds stop = k.at_dark cs n
-    dark_holds (packet bytes) = k.at_dark cs n
-    dark_holds (snapshot bytes) = k.at_dark cs n
-    dark_holds (repair source budget) = k.at_dark cs n
     dark_holds show_lamp = k.at_dark (show_lamp ∷ cs) n
-    dark_holds (ask q) = k.at_dark cs n
+    dark_holds call = k.at_dark cs n
 
     red_holds : (i : ℕ) (cause : Cause) → P cs n (red i cause) → (c : Call) → Holds c (red i cause) (while_red room i cause c)
     unfolding while_red
-    red_holds i cause ih start_at_one = ih
-    red_holds i cause ih start_by_snapshot = ih
     red_holds i cause ih stop = k.at_dark (stop ∷ cs) n
-    red_holds i cause ih (packet bytes) = ih
-    red_holds i cause ih (snapshot bytes) = ih
-    red_holds i cause ih (repair source budget) = ih
     red_holds i cause ih show_lamp = k.by_lamp cs n (red i cause) ih
-    red_holds i cause ih (ask q) = ih
+    red_holds i cause ih call = ih
 
     call_holds : (s : State) → P cs n s → (c : Call) → Holds c s (outcome room s c)
     unfolding outcome

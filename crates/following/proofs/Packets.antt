@@ -5,7 +5,7 @@ use Rattle.codes.specs.declared.cause.Cause.{Cause}
 use Rattle.codes.specs.declared.refusal.Refusal.{Refusal}
 use Rattle.codes.specs.declared.refusal.Refusal.TheVariants as refusal
 use Rattle.wire.specs.Packets.{Sent, heartbeat, messages, packet_of}
-use Rattle.wire.specs.declared.session.Session.{Session}
+use Rattle.wire.specs.Names.{Session}
 use Rattle.book.specs.Plain.{Plain, ran}
 use Rattle.following.specs.States.{Room, Held, is_held, with_held, Wanting, Started, State, dark, red, started}
 use Rattle.following.specs.Calls.{counted, Outcome, refused, accepted}
@@ -158,14 +158,14 @@ module _ (room : Room) where
   not_dropped f A n (inr a) = a
 
   not_taken : taken ≡ dropped → ⊥
-  not_taken e = let z : ◌≡◌ {A = ℕ} 0 1 = cc in omega arith
+  not_taken e = cc
 
   not_repeated : repeated ≡ dropped → ⊥
-  not_repeated e = let z : ◌≡◌ {A = ℕ} 0 1 = cc in omega arith
+  not_repeated e = cc
 
   treated_fills : (p : Place) (k : ℕ) (x : List ℕ) → Fills k p (treated room p k x)
   unfolding treated
-  treated_fills (stopped n c) k x = λ d. not_dropped unread ⊥ (λ e. let z : ◌≡◌ {A = ℕ} 0 1 = cc in omega arith) d
+  treated_fills (stopped n c) k x = λ d. not_dropped unread ⊥ (λ e. cc) d
   treated_fills (bookless hs) k x = go (is_held k hs) (ltb (length hs) room.for_held) refl
     where
       go :
@@ -186,10 +186,8 @@ module _ (room : Room) where
       (λ a u d. (omega arith, u))
 
   one_dropped : (f : Fate) (c : Counts) → 1 ≤ (count_one f c).dropped → (f ≡ dropped) ⊎ (1 ≤ c.dropped)
-  one_dropped taken c l = inr l
-  one_dropped repeated c l = inr l
-  one_dropped unread c l = inr l
   one_dropped dropped c l = inl refl
+  one_dropped fate c l = inr l
 
   drops_fill :
       (ms : List (List ℕ)) (p : Place) (k : ℕ) → (1 ≤ (counts_of room p k ms).dropped) ⊎ Full k p → (j : ℕ) × Full j (place_after room p k ms)
@@ -218,10 +216,10 @@ module _ (room : Room) where
 
   no_drop : (t : Bool) (after : State) → DropsFull (cond t (accepted after (counted no_counts)) (refused refusal.OtherSession))
   no_drop true after next c e l = let z : no_counts.dropped ≡ c.dropped = cc in absurd (omega arith)
-  no_drop false after next c e l = let z : ◌≡◌ {A = ℕ} 0 1 = cc in absurd (omega arith)
+  no_drop false after next c e l = absurd cc
 
   packet_drops : (s : Started) (r : Result Sent Refusal) → DropsFull (on_packet room s r)
-  packet_drops s (Err why) next c e l = let z : ◌≡◌ {A = ℕ} 0 1 = cc in absurd (omega arith)
+  packet_drops s (Err why) next c e l = absurd cc
   packet_drops s (Ok (heartbeat n session)) next c e l = no_drop (agrees s.session session) _ next c e l
   packet_drops s (Ok (messages number ms)) next c e l =
       let p : Place = place_of s.book s.held in
@@ -237,6 +235,6 @@ wanted_is_taken room s b bytes e c = wanted_taken room s b (packet_of bytes) e c
 
 pub drops_only_when_full : DropsOnlyWhenFull
 unfolding outcome while_started while_dark while_red
-drops_only_when_full room dark next bytes c e l = let z : ◌≡◌ {A = ℕ} 0 1 = cc in absurd (omega arith)
-drops_only_when_full room (red k cause) next bytes c e l = let z : ◌≡◌ {A = ℕ} 0 1 = cc in absurd (omega arith)
+drops_only_when_full room dark next bytes c e l = absurd cc
+drops_only_when_full room (red k cause) next bytes c e l = absurd cc
 drops_only_when_full room (started s) next bytes c e l = packet_drops room s (packet_of bytes) next c e l

@@ -4,9 +4,9 @@ use Rattle.codes.specs.declared.cause.Cause.{Cause}
 use Rattle.codes.specs.declared.lamp.Lamp.{Lamp}
 use Rattle.codes.specs.declared.lamp.Lamp.TheVariants as lamp
 use Rattle.codes.specs.declared.refusal.Refusal.TheVariants as refusal
-use Rattle.wire.specs.declared.session.Session.{Session}
+use Rattle.wire.specs.Names.{Session}
 use Rattle.source.specs.Meanings.{Meaning}
-use Rattle.source.proofs.Sessions.{same_session_decides}
+use Rattle.std.proofs.lemmas.Slice.Eq.{bytes_eq-Decides}
 use Rattle.book.specs.Plain.{Plain}
 use Rattle.following.specs.States.{Room, Held, Wanting, State, dark, red, started, lamp_at, lamp_of}
 use Rattle.following.specs.Calls.{ask, Question, refused, answered, told}
@@ -53,15 +53,15 @@ module _ (room : Room) (day : Day) where
       Shape k (place_of b hs) → Fits room day (place_of b hs) → lamp_at b heard k ≡ lamp.Green n →
       (n ≡ suc k) × ((v : Plain) × (whole_run room.for_book day k ≡ reached v) ×
       ((q : Question) → on_question room (lamp_at b heard k) b s q ≡ told s (answered v q)))
-  green_at None heard k hs s n o f e = absurd (let z : ◌≡◌ {A = ℕ} 0 1 = cc in omega arith)
-  green_at (Some b) false k hs s n o f e = absurd (let z : ◌≡◌ {A = ℕ} 0 1 = cc in omega arith)
+  green_at None heard k hs s n o f e = absurd cc
+  green_at (Some b) false k hs s n o f e = absurd cc
   green_at (Some b) true k hs s n o f e = go (leb b.wanted k) refl e
     where
       go :
           (t : Bool) → leb b.wanted k ≡ t → cond t (lamp.Gap b.wanted k) (lamp.Green b.wanted) ≡ lamp.Green n →
           (n ≡ suc k) × ((v : Plain) × (whole_run room.for_book day k ≡ reached v) ×
           ((q : Question) → on_question room (cond t (lamp.Gap b.wanted k) (lamp.Green b.wanted)) (Some b) s q ≡ told s (answered v q)))
-      go true q e' = absurd (let z : ◌≡◌ {A = ℕ} 0 1 = cc in omega arith)
+      go true q e' = absurd cc
       go false q e' =
           let a : k < b.wanted = leb-false b.wanted k q in
           let w : b.wanted ≡ n = cc in
@@ -71,16 +71,13 @@ module _ (room : Room) (day : Day) where
   not_green_at :
       (b : Option Wanting) (l : Lamp) (s : State) → ((n : ℕ) → l ≡ lamp.Green n → ⊥) → (q : Question) →
       on_question room l b s q ≡ refused (refusal.NotGreen l)
-  not_green_at b lamp.Dark s g q = refl
-  not_green_at b (lamp.Red n c) s g q = refl
-  not_green_at b lamp.Waiting s g q = refl
-  not_green_at b (lamp.Gap w k) s g q = refl
   not_green_at b (lamp.Green n) s g q = absurd (g n refl)
+  not_green_at b shown s g q = refl
 
   agrees_known : (t : Option Session) (s : Session) → Known room day t → s ≡ day.session → agrees t s ≡ true
   unfolding agrees
   agrees_known None s e e' = refl
-  agrees_known (Some t) s e e' = (same_session_decides t s).1 (e ∙ sym e')
+  agrees_known (Some t) s e e' = (bytes_eq-Decides t.bytes s.bytes).1 (ap (λ (x : Session). x.bytes) (e ∙ sym e'))
 
   -- gap, over the parts of a state
   gap_at :
@@ -93,8 +90,8 @@ module _ (room : Room) (day : Day) where
       (refused refusal.OtherSession)
       ≡ on_mended room source.session k (mended room source.held k budget (place_of b hs)))
       × ((i ≡ k) × Repaired room source k (Some source.session) (mended room source.held k budget (place_of b hs)) (missing hs w (suc i - w)))
-  gap_at t None heard k hs w i a o e source budget ours cov enough = absurd (let z : ◌≡◌ {A = ℕ} 0 1 = cc in omega arith)
-  gap_at t (Some b) false k hs w i a o e source budget ours cov enough = absurd (let z : ◌≡◌ {A = ℕ} 0 1 = cc in omega arith)
+  gap_at t None heard k hs w i a o e source budget ours cov enough = absurd cc
+  gap_at t (Some b) false k hs w i a o e source budget ours cov enough = absurd cc
   gap_at t (Some b) true k hs w i a o e source budget ours cov enough = go (leb b.wanted k) refl e
     where
       go :
@@ -105,7 +102,7 @@ module _ (room : Room) (day : Day) where
           (refused refusal.OtherSession)
           ≡ on_mended room source.session k (mended room source.held k budget (wanting b hs)))
           × ((i ≡ k) × Repaired room source k (Some source.session) (mended room source.held k budget (wanting b hs)) (missing hs w (suc i - w)))
-      go false q e' = absurd (let z : ◌≡◌ {A = ℕ} 0 1 = cc in omega arith)
+      go false q e' = absurd cc
       go true q e' =
           let ew : w ≡ b.wanted = cc in
           let ei : i ≡ k = cc in (
@@ -123,8 +120,8 @@ module _ (room : Room) (day : Day) where
         (n ≡ suc top) × ((v : Plain) × (whole_run room.for_book day top ≡ reached v) ×
         ((q : Question) → outcome room s (ask q) ≡ told s (answered v q)))
     unfolding lamp_of outcome while_started
-    green_right dark t f n e = absurd (let z : ◌≡◌ {A = ℕ} 0 1 = cc in omega arith)
-    green_right (red k c) t f n e = absurd (let z : ◌≡◌ {A = ℕ} 0 1 = cc in omega arith)
+    green_right dark t f n e = absurd cc
+    green_right (red k c) t f n e = absurd cc
     green_right (started s) t f n e =
         let r = green_at s.book s.heard s.highest s.held (started s) n t.1 f.1 e in
         (r.0 ∙ ap suc t.0, (r.1.0, ap (whole_run room.for_book day) (sym t.0) ∙ r.1.1, r.1.2))
@@ -136,19 +133,19 @@ module _ (room : Room) (day : Day) where
     no_book (started s) g q = inr (inr (not_green_at s.book (lamp_at s.book s.heard s.highest) (started s) g q))
 
     waits : (b : Option Wanting) (heard : Bool) (k i : ℕ) (c : Cause) → lamp_at b heard k ≡ lamp.Red i c → ⊥
-    waits None heard k i c e = let z : ◌≡◌ {A = ℕ} 0 1 = cc in omega arith
-    waits (Some b) false k i c e = let z : ◌≡◌ {A = ℕ} 0 1 = cc in omega arith
+    waits None heard k i c e = cc
+    waits (Some b) false k i c e = cc
     waits (Some b) true k i c e = go (leb b.wanted k) e
       where
         go : (t : Bool) → cond t (lamp.Gap b.wanted k) (lamp.Green b.wanted) ≡ lamp.Red i c → ⊥
-        go true e' = let z : ◌≡◌ {A = ℕ} 0 1 = cc in omega arith
-        go false e' = let z : ◌≡◌ {A = ℕ} 0 1 = cc in omega arith
+        go true e' = cc
+        go false e' = cc
 
     red_right :
         (s : State) → Faithful room day s → (k : ℕ) (c : Cause) → lamp_of s ≡ lamp.Red k c →
         whole_run room.for_book day (length day.messages) ≡ stops k c
     unfolding lamp_of
-    red_right dark f k c e = absurd (let z : ◌≡◌ {A = ℕ} 0 1 = cc in omega arith)
+    red_right dark f k c e = absurd cc
     red_right (started s) f k c e = absurd (waits s.book s.heard s.highest k c e)
     red_right (red i cause) f k c e =
         let n : i ≡ k = cc in
@@ -161,8 +158,8 @@ module _ (room : Room) (day : Day) where
         Covers source w k (held_of s) → missing (held_of s) w (suc k - w) ≤ budget →
         Mends room s source budget k (missing (held_of s) w (suc k - w))
     unfolding lamp_of outcome while_started
-    gap_mends dark t f w k e source budget ours cov enough = absurd (let z : ◌≡◌ {A = ℕ} 0 1 = cc in omega arith)
-    gap_mends (red i c) t f w k e source budget ours cov enough = absurd (let z : ◌≡◌ {A = ℕ} 0 1 = cc in omega arith)
+    gap_mends dark t f w k e source budget ours cov enough = absurd cc
+    gap_mends (red i c) t f w k e source budget ours cov enough = absurd cc
     gap_mends (started s) t f w k e source budget ours cov enough =
         let r = gap_at s.session s.book s.heard s.highest s.held w k f.0 t.1 e source budget ours cov enough in
         let m = mended room source.held s.highest budget (place_of s.book s.held) in

@@ -3,7 +3,7 @@ use Rattle.std.proofs.Common.{◌≡◌, ℕ, zero, suc, pred, ◌+◌, ◌-◌,
 use borrow.Author.Tests.{lt-leb, eqb-false}
 use Rattle.codes.specs.declared.cause.Cause.{Cause}
 use Rattle.codes.specs.declared.lamp.Lamp.TheVariants as lamp
-use Rattle.wire.specs.declared.session.Session.{Session}
+use Rattle.wire.specs.Names.{Session}
 use Rattle.source.specs.Meanings.{Meaning}
 use Rattle.book.specs.Plain.{Plain, ran}
 use Rattle.following.specs.States.{Room, Held, Wanting, red, lamp_of}

@@ -102,10 +102,7 @@ module _ (room : Room) where
   pub mended_shape : (source : ℕ → Option (List ℕ)) (k n : ℕ) (p : Place) → Shape k p → Shape k (mended room source k n p).place
   unfolding mended
   mended_shape source k zero (bookless hs) s = s
-  mended_shape source k zero (wanting b hs) s = s
-  mended_shape source k zero (stopped i c) s = s
-  mended_shape source k (suc n) (bookless hs) s = s
-  mended_shape source k (suc n) (stopped i c) s = s
+  mended_shape source k zero p s = s
   mended_shape source k (suc n) (wanting b hs) s =
       go (leb b.wanted k) refl (source b.wanted) (λ x. mended_shape source k n (run_wanted room b x hs))
     where
@@ -117,3 +114,4 @@ module _ (room : Room) where
       go false q o ih = s
       go true q None ih = s
       go true q (Some x) ih = ih x (run_wanted_shape hs b k x (leb-true b.wanted k q) s.1)
+  mended_shape source k (suc n) p s = s

@@ -1,7 +1,7 @@
 -- What holds of the state after every history: it is in order, and it fits every day to which all that was accepted belongs.
 use Rattle.std.proofs.Common.{◌≡◌, ℕ, suc, pred, ◌+◌, ◌≤◌, max, List, length, Some, None, Option, refl, ap, ◌∙◌, subst, arith}
 use Rattle.wire.specs.Packets.{packet_of}
-use Rattle.wire.specs.declared.session.Session.{Session}
+use Rattle.wire.specs.Names.{Session}
 use Rattle.following.specs.States.{Room, Held, Wanting, Started, State, dark, red, started, held_from}
 use Rattle.following.specs.Calls.{Call}
 use Rattle.following.specs.Follower.{

@@ -9,7 +9,7 @@ use Rattle.codes.specs.declared.side.Side.{Side}
 use Rattle.codes.specs.declared.trading.Trading.{Trading}
 use Rattle.wire.specs.Answers.{through}
 use Rattle.wire.specs.Names.{symbol_of}
-use Rattle.wire.specs.declared.symbol.Symbol.{Symbol}
+use Rattle.wire.specs.Names.{Symbol}
 use Rattle.source.specs.Meanings.{Meaning}
 use Rattle.book.specs.Plain.{Plain}
 use Rattle.book.specs.Questions.{event_in, states_of, orders_of}

@@ -3,24 +3,11 @@ use Rattle.std.specs.Prelude.{◌≡◌, ℕ, zero, suc, pred, max, List, [], �
 use Rattle.codes.specs.declared.cause.Cause.{Cause}
 use Rattle.codes.specs.declared.refusal.Refusal.{Refusal}
 use Rattle.wire.specs.Packets.{Sent, heartbeat, messages, packet_of}
-use Rattle.wire.specs.declared.session.Session.{Session}
+use Rattle.wire.specs.Names.{Session}
 use Rattle.source.specs.Meanings.{Meaning, numbered_from}
 use Rattle.book.specs.Plain.{Plain, Slots, empty, ran}
 use Rattle.following.specs.States.{Room, State, dark}
-use Rattle.following.specs.Calls.{
-  Call,
-  start_at_one,
-  start_by_snapshot,
-  stop,
-  packet,
-  snapshot,
-  repair,
-  show_lamp,
-  ask,
-  Outcome,
-  refused,
-  accepted,
-}
+use Rattle.following.specs.Calls.{Call, start_at_one, start_by_snapshot, packet, snapshot, repair, Outcome, refused, accepted}
 use Rattle.following.specs.Follower.{Snapshot, snapshot_of, last_of, outcome, moved}
 
 -- a session's name, and the messages that the venue sent in it
@@ -73,12 +60,7 @@ module _ (room : Room) where
   abbrev pub noted : Call → List Call → List Call
   noted start_at_one cs = []
   noted start_by_snapshot cs = []
-  noted stop cs = stop ∷ cs
-  noted (packet bytes) cs = packet bytes ∷ cs
-  noted (snapshot bytes) cs = snapshot bytes ∷ cs
-  noted (repair source budget) cs = repair source budget ∷ cs
-  noted show_lamp cs = show_lamp ∷ cs
-  noted (ask q) cs = ask q ∷ cs
+  noted call cs = call ∷ cs
 
   -- a refused call leaves the list as it is
   abbrev pub noted_if : Outcome → Call → List Call → List Call
@@ -106,14 +88,9 @@ module _ (room : Room) where
   snapshot_top (Err why) = 0
 
   abbrev pub top : Call → ℕ
-  top start_at_one = 0
-  top start_by_snapshot = 0
-  top stop = 0
   top (packet bytes) = packet_top (packet_of bytes)
   top (snapshot bytes) = snapshot_top (snapshot_alone bytes)
-  top (repair source budget) = 0
-  top show_lamp = 0
-  top (ask q) = 0
+  top call = 0
 
   -- the highest number heard in some calls, from the calls alone
   unfoldable pub highest_in : List Call → ℕ
@@ -138,14 +115,10 @@ module _ (room : Room) where
       (source.session ≡ day.session) × ((k : ℕ) (m : List ℕ) → source.held k ≡ Some m → message_of day k ≡ Some m)
 
   abbrev pub Belongs : Day → Call → Type 0
-  Belongs day start_at_one = Unit {0}
-  Belongs day start_by_snapshot = Unit {0}
-  Belongs day stop = Unit {0}
   Belongs day (packet bytes) = PacketBelongs day (packet_of bytes)
   Belongs day (snapshot bytes) = SnapshotBelongs day (snapshot_alone bytes)
   Belongs day (repair source budget) = SourceBelongs day source
-  Belongs day show_lamp = Unit {0}
-  Belongs day (ask q) = Unit {0}
+  Belongs day call = Unit {0}
 
   unfoldable pub AllBelong : Day → List Call → Type 0
   AllBelong day [] = Unit {0}

@@ -6,7 +6,7 @@ use Rattle.codes.specs.declared.lamp.Lamp.TheVariants as lamp
 use Rattle.codes.specs.declared.refusal.Refusal.{Refusal}
 use Rattle.codes.specs.declared.refusal.Refusal.TheVariants as refusal
 use Rattle.wire.specs.Packets.{Sent, heartbeat, messages, packet_of}
-use Rattle.wire.specs.declared.session.Session.{Session}
+use Rattle.wire.specs.Names.{Session}
 use Rattle.session.specs.Sessions.{Opening, session_messages, opening}
 use Rattle.session.specs.Carried.{carried}
 use Rattle.source.specs.Meanings.{Meaning}
@@ -223,10 +223,7 @@ module _ (room : Room) where
 
   abbrev pub unless_waiting : Lamp → Outcome → Outcome
   unless_waiting lamp.Waiting o = refused refusal.Waiting
-  unless_waiting lamp.Dark o = o
-  unless_waiting (lamp.Red k cause) o = o
-  unless_waiting (lamp.Gap w k) o = o
-  unless_waiting (lamp.Green w) o = o
+  unless_waiting shown o = o
 
   abbrev pub on_repair : Started → Meaning → ℕ → Outcome
   on_repair s source budget =
@@ -238,11 +235,7 @@ module _ (room : Room) where
   -- a question is answered by the book while the lamp is green
   abbrev pub on_question : Lamp → Option Wanting → State → Question → Outcome
   on_question (lamp.Green w) (Some b) state q = told state (answered b.book q)
-  on_question (lamp.Green w) None state q = refused (refusal.NotGreen (lamp.Green w))
-  on_question lamp.Waiting book state q = refused (refusal.NotGreen lamp.Waiting)
-  on_question lamp.Dark book state q = refused (refusal.NotGreen lamp.Dark)
-  on_question (lamp.Red k cause) book state q = refused (refusal.NotGreen (lamp.Red k cause))
-  on_question (lamp.Gap w k) book state q = refused (refusal.NotGreen (lamp.Gap w k))
+  on_question shown book state q = refused (refusal.NotGreen shown)
 
   unfoldable pub while_started : Started → Call → Outcome
   while_started s start_at_one = refused refusal.NotDark
@@ -257,22 +250,15 @@ module _ (room : Room) where
   unfoldable pub while_dark : Call → Outcome
   while_dark start_at_one = accepted (begun from_one) done
   while_dark start_by_snapshot = accepted (begun None) done
-  while_dark stop = refused refusal.Dark
-  while_dark (packet bytes) = refused refusal.Dark
-  while_dark (snapshot bytes) = refused refusal.Dark
-  while_dark (repair source budget) = refused refusal.Dark
   while_dark show_lamp = accepted dark (lamp_shown (lamp_of dark))
-  while_dark (ask q) = refused refusal.Dark
+  while_dark call = refused refusal.Dark
 
   unfoldable pub while_red : ℕ → Cause → Call → Outcome
   while_red k cause start_at_one = refused refusal.NotDark
   while_red k cause start_by_snapshot = refused refusal.NotDark
   while_red k cause stop = accepted dark done
-  while_red k cause (packet bytes) = refused refusal.Red
-  while_red k cause (snapshot bytes) = refused refusal.Red
-  while_red k cause (repair source budget) = refused refusal.Red
   while_red k cause show_lamp = accepted (red k cause) (lamp_shown (lamp_of (red k cause)))
-  while_red k cause (ask q) = refused refusal.Red
+  while_red k cause call = refused refusal.Red
 
   -- how a call comes out: the one definition of the follower
   unfoldable pub outcome : State → Call → Outcome

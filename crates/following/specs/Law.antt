@@ -6,7 +6,7 @@ use Rattle.codes.specs.declared.lamp.Lamp.TheVariants as lamp
 use Rattle.codes.specs.declared.refusal.Refusal.{Refusal}
 use Rattle.codes.specs.declared.refusal.Refusal.TheVariants as refusal
 use Rattle.wire.specs.Packets.{Sent, heartbeat, messages, packet_of}
-use Rattle.wire.specs.declared.session.Session.{Session}
+use Rattle.wire.specs.Names.{Session}
 use Rattle.source.specs.Meanings.{Meaning}
 use Rattle.book.specs.Plain.{Plain}
 use Rattle.following.specs.States.{
@@ -23,32 +23,7 @@ use Rattle.following.specs.States.{
   is_held,
   lamp_of,
 }
-use Rattle.following.specs.Calls.{
-  Call,
-  start_at_one,
-  start_by_snapshot,
-  stop,
-  packet,
-  snapshot,
-  repair,
-  show_lamp,
-  ask,
-  Question,
-  Reply,
-  done,
-  counted,
-  snapshot_taken,
-  repaired,
-  lamp_shown,
-  event_is,
-  states_are,
-  orders_are,
-  Outcome,
-  refused,
-  accepted,
-  answered,
-  told,
-}
+use Rattle.following.specs.Calls.{Call, start_at_one, start_by_snapshot, stop, packet, repair, show_lamp, ask, Question, Reply, counted, repaired, lamp_shown, Outcome, refused, accepted, answered, told}
 use Rattle.following.specs.Follower.{agrees, outcome}
 use Rattle.following.specs.Days.{Day, reached, stops, whole_run, after, since, highest_in, AllBelong}
 use Rattle.following.specs.declared.answers.Counts.{Counts}
@@ -247,14 +222,8 @@ DropsOnlyWhenFull =
 
 -- a call is a packet with a message numbered k
 abbrev pub CallCarries : Call → ℕ → Type 0
-CallCarries start_at_one k = ⊥
-CallCarries start_by_snapshot k = ⊥
-CallCarries stop k = ⊥
 CallCarries (packet bytes) k = Carries (packet_of bytes) k
-CallCarries (snapshot bytes) k = ⊥
-CallCarries (repair source budget) k = ⊥
-CallCarries show_lamp k = ⊥
-CallCarries (ask q) k = ⊥
+CallCarries call k = ⊥
 
 -- one of the calls is such a packet
 unfoldable pub Carried : List Call → ℕ → Type 0
@@ -263,25 +232,15 @@ Carried (c ∷ cs) k = CallCarries c k ⊎ Carried cs k
 
 -- how many messages an answer says were dropped
 abbrev pub dropped_by : Reply → ℕ
-dropped_by done = 0
 dropped_by (counted c) = c.dropped
-dropped_by (snapshot_taken n) = 0
-dropped_by (repaired n how) = 0
-dropped_by (lamp_shown l) = 0
-dropped_by (event_is code) = 0
-dropped_by (states_are both) = 0
-dropped_by (orders_are rows) = 0
+dropped_by reply = 0
 
 -- a start counts anew
 abbrev pub dropped_with : Call → ℕ → ℕ → ℕ
 dropped_with start_at_one n before = 0
 dropped_with start_by_snapshot n before = 0
-dropped_with stop n before = before
 dropped_with (packet bytes) n before = n + before
-dropped_with (snapshot bytes) n before = before
-dropped_with (repair source budget) n before = before
-dropped_with show_lamp n before = before
-dropped_with (ask q) n before = before
+dropped_with call n before = before
 
 abbrev pub dropped_if : Outcome → Call → ℕ → ℕ
 dropped_if (refused why) c before = before

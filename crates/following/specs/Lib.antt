@@ -1,4 +1,5 @@
 pub mod States
+pub mod Shown
 pub mod Calls
 pub mod Follower
 pub mod Days

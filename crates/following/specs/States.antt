@@ -3,7 +3,7 @@ use Rattle.std.specs.Prelude.{ℕ, Bool, false, cond, List, [], is_some, Some, N
 use Rattle.codes.specs.declared.cause.Cause.{Cause}
 use Rattle.codes.specs.declared.lamp.Lamp.{Lamp}
 use Rattle.codes.specs.declared.lamp.Lamp.TheVariants as lamp
-use Rattle.wire.specs.declared.session.Session.{Session}
+use Rattle.wire.specs.Names.{Session}
 use Rattle.table.specs.Rows.{found, placed, onward}
 use Rattle.book.specs.Keys.{by_number}
 use Rattle.book.specs.Plain.{Plain, Slots, empty}

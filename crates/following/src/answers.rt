@@ -1,7 +1,11 @@
 // What a packet and a repair answer.
+ghost use Rattle.std.specs.Prelude.{Some};
+ghost use Rattle.following.specs.Shown.{counts_shown, ending_shown};
+
+use std::fmt::{self, Display, Formatter, Write};
 
 // What became of the messages of a packet.
-#[derive(Clone, Copy, PartialEq, Eq)]
+#[derive(Clone, Copy, Default, PartialEq, Eq)]
 pub struct Counts {
     // run on the book, or held
     pub taken: u16,
@@ -22,4 +26,34 @@ pub enum Ending {
     Budget,
     // the source lacks the wanted message
     NotHeld,
+}
+
+impl Display for Counts {
+    ghost output = { λ counts. Some (counts_shown counts) };
+
+    fn fmt<W: Write>(&self, f: &mut Formatter<W>) -> fmt::Result {
+        let Counts {
+            taken,
+            repeated,
+            dropped,
+            unread,
+        } = *self;
+        write!(
+            f,
+            "taken {taken} repeated {repeated} dropped {dropped} unread {unread}"
+        )
+    }
+}
+
+impl Display for Ending {
+    ghost output = { λ how. Some (ending_shown how) };
+
+    fn fmt<W: Write>(&self, f: &mut Formatter<W>) -> fmt::Result {
+        f.write_str(match self {
+            Ending::Red => "red",
+            Ending::Green => "green",
+            Ending::Budget => "budget",
+            Ending::NotHeld => "not-held",
+        })
+    }
 }

@@ -1,5 +1,4 @@
 -- The late join, for any held messages and any snapshot.
-use Rattle.std.proofs.Common.{◌≡◌, refl}
 use Rattle.table.specs.Rows.{below}
 use Rattle.following.specs.States.{lamp_of}
 use Rattle.following.specs.Follower.{settled, run_held, while_started, outcome}

@@ -1,2 +1,2 @@
-pub mod Tested
+pub mod Computed
 pub mod Joined

@@ -1,5 +1,5 @@
 -- What a recovery session holds.
-use Rattle.std.specs.Prelude.{◌≡◌, ℕ, ◌≤◌, cond, List, Some, None, Ok, Err, Option, Result, nat_le}
+use Rattle.std.specs.Prelude.{ℕ, cond, List, Some, None, Ok, Err, Option, Result, nat_le}
 use Rattle.codes.specs.declared.refusal.Refusal.{Refusal}
 use Rattle.codes.specs.declared.refusal.Refusal.TheVariants.{NotOpened}
 use Rattle.wire.specs.Numbers.{most32}
@@ -24,8 +24,4 @@ recovery_of bytes = recovery_by (opening (session_messages bytes))
 
 -- what the code's reader means
 abbrev pub meaning_of : Recovery → Meaning
-meaning_of r = record { session = r.session; held = served_from r.first (still_carried r.all) }
-
--- each number from `next` on stands in `rest` as it stands in `all`
-abbrev pub Agrees : Recovery → Type 0
-Agrees r = (n : ℕ) → r.next ≤ n → numbered_from r.next (still_carried r.rest) n ≡ numbered_from r.first (still_carried r.all) n
+meaning_of r = record { session = r.session; held = served_from r.first.number (still_carried r.first.messages) }

@@ -1,20 +1,16 @@
 // A reader of recovery sessions.
-ghost use Rattle.std.specs.Prelude.{◌≡◌, IfOk};
-ghost use Rattle.std.specs.Option.{option_map};
-ghost use Rattle.session.specs.Carried.{still_carried};
-ghost use Rattle.wire.specs.Answers.{through};
-ghost use Rattle.recovery.specs.Recoveries.{recovery_of, meaning_of, Agrees};
-ghost use Rattle.recovery.specs.Walks.{behind, walked, Finds};
+ghost use Rattle.std.specs.Prelude.{◌≡◌};
+ghost use Rattle.std.proofs.Props.{props};
+ghost use Rattle.recovery.specs.Places.{Agrees};
 
+use crate::place::Place;
 use codes::Refusal;
 use session::{Carried, Opened};
 use source::{MessageBuffer, Source};
-use wire::Session;
+use wire::{MOST, Session};
 
-// The smallest and the largest number of a message.
+// The smallest number of a message.
 const LEAST: u32 = 1;
-
-const MOST: u32 = 2_147_483_647;
 
 /// The messages of a recovery session, read from its bytes as they are fetched.
 ///
@@ -22,87 +18,68 @@ const MOST: u32 = 2_147_483_647;
 #[derive(Drop)]
 pub struct Recovery<'a> {
     session: Session,
-    // the number of the first message, and the messages from there on
-    first: u32,
-    all: Carried<'a>,
-    // the number behind the one that was fetched last, and the messages from there on
-    next: u32,
-    rest: Carried<'a>,
-}
-
-// A message, and the messages that follow it.
-#[derive(Clone, Copy)]
-struct Found<'a> {
-    message: &'a [u8],
-    rest: Carried<'a>,
+    first: Place<'a>,
+    // behind the message that was fetched last
+    next: Place<'a>,
+    ghost agrees: { Agrees first next } by { Prim.hlevel props },
 }
 
 impl<'a> Recovery<'a> {
+    ghost use Rattle.std.specs.Prelude.{IfSome};
+    ghost use Rattle.std.specs.Option.{option_map};
+    ghost use Rattle.wire.specs.Answers.{through};
+    ghost use Rattle.source.specs.Meanings.{Sized};
+    ghost use Rattle.recovery.specs.Places.{message_of};
+    ghost use Rattle.recovery.specs.Recoveries.{recovery_of, meaning_of};
+
     /// Session bytes that open with a number of at least 1: the first message that they carry has that number.
     pub fn open(bytes: &'a [u8]) -> Result<Recovery<'a>, Refusal>
-        ensures meaning { through meaning_of result ≡ recovery_of bytes.now }
-        ensures agrees { IfOk result Agrees }
+        ensures { through meaning_of result ≡ recovery_of bytes.now }
     {
-        let Some(opened) = Opened::read(bytes) else {
-            return Err(Refusal::NotOpened);
+        let opened = Opened::read(bytes)
+            .filter(|opened| opened.number >= LEAST)
+            .ok_or(Refusal::NotOpened)?;
+        let first = Place {
+            number: opened.number,
+            messages: Carried::new(opened.messages),
         };
-        if opened.number < LEAST {
-            return Err(Refusal::NotOpened);
-        }
-        let all = Carried::new(opened.messages);
         Ok(Recovery {
             session: opened.session,
-            first: opened.number,
-            all,
-            next: opened.number,
-            rest: all,
+            first,
+            next: first,
         })
     }
 
     // From where it fetched last or, for a number before that, from the first message.
-    fn find(&self, number: u32) -> Option<Found<'a>>
-        requires { Agrees self.now }
-        ensures { Finds self.now number (option_map walked result) }
+    fn find(&self, number: u32) -> Option<(&'a [u8], Place<'a>)>
+        ensures value { option_map message_of result ≡ (meaning_of self.now).held number }
+        ensures sized { Sized ((meaning_of self.now).held number) }
+        ensures agrees { IfSome result (λ f. Agrees self.now.first f.1) }
     {
-        if number > MOST || number < self.first {
+        if number > MOST {
             return None;
         }
-        if number < self.next {
-            walk(self.all, number - self.first)
+        if number < self.next.number {
+            self.first.walk(number)
         } else {
-            walk(self.rest, number - self.next)
+            self.next.walk(number)
         }
     }
 }
 
-// The message that stands behind so many others.
-fn walk<'a>(mut from: Carried<'a>, others: u32) -> Option<Found<'a>>
-    ensures { option_map walked result ≡ behind others (still_carried from.entry) }
-{
-    let message = from.nth(others as usize)?;
-    Some(Found {
-        message,
-        rest: from,
-    })
-}
-
 impl<'a> Source for Recovery<'a> {
-    ghost meaning = { meaning_of };
+    ghost use Rattle.recovery.specs.Recoveries.{meaning_of};
 
-    ghost agrees = { Agrees };
+    ghost meaning = { meaning_of };
 
     fn session(&self) -> Session {
         self.session
     }
 
     fn fetch(&mut self, number: u32, out: &mut MessageBuffer) -> Option<usize> {
-        let Some(found) = self.find(number) else {
-            return None;
-        };
-        let length = found.message.len();
-        out[0..length].copy_from_slice(found.message);
-        self.next = number + 1;
-        self.rest = found.rest;
-        Some(length)
+        let (message, next) = self.find(number)?;
+        out[..message.len()].copy_from_slice(message);
+        self.next = next;
+        Some(message.len())
     }
 }

@@ -1,4 +1,3 @@
 pub mod Captures
-pub mod Hex
 pub mod Sources
 pub mod Words

@@ -14,10 +14,6 @@ abbrev pub meaning_of : AnySource → Meaning
 meaning_of (any.Session s) = recovery.meaning_of s
 meaning_of (any.File f) = dayfile.meaning_of f
 
-abbrev pub Agrees : AnySource → Type 0
-Agrees (any.Session s) = recovery.Agrees s
-Agrees (any.File f) = dayfile.Agrees f
-
 -- what bytes mean as a source of a kind, or their refusal
 abbrev pub source_of : Kind → List ℕ → Result Meaning Refusal
 source_of kind.Session bytes = recovery.recovery_of bytes

@@ -1,6 +1,6 @@
 -- What a word of a script says.
 use Rattle.std.specs.Prelude.{ℕ, cond, ◌&&◌, List, [], ◌++◌, length, drop, replicate, Some, None, Option, ◌==◌, nat_le, slice_index}
-use Rattle.replay_follower.specs.Hex.{bytes_of}
+use Rattle.scripts.specs.Hex.{bytes_of}
 
 -- one pair of digits or more; - alone is no bytes
 abbrev pub bytes_in : List ℕ → Option (List ℕ)

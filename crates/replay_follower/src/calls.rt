@@ -1,178 +1,123 @@
 // The lines that call the follower.
-ghost use Rattle.follower.specs.Model.{SourcesAgree};
-ghost use Rattle.replay_follower.specs.Sources.{Agrees};
-
-use crate::script::{Bare, Order};
+use crate::captures::{Packets, Sums};
 use crate::sources::AnySource;
-use crate::{captures, show, words};
+use crate::{show, words};
 use book::BookRow;
 use codes::Side;
 use follower::{Call, Follower, Question};
+use scripts::Fault;
+use scripts::words::field;
 use source::{Pair, Source};
-use std::io;
+use std::fs;
 
-// A line: its call is made, and what it answered is printed.
-pub(crate) fn run(
-    rt: &HostRuntime,
-    order: Order<'_>,
-    follower: &mut Follower<'_, '_>,
-    rows: &mut [BookRow],
-) -> io::Result<()> {
-    match order {
-        Order::Bare(bare) => simple(rt, bare, follower, rows),
-        Order::Packet(word) => packet(rt, word, follower, rows),
-        Order::Capture(path) => captures::run(rt, path, follower, rows),
-        Order::Snapshot(word) => snapshot(rt, word, follower, rows),
-        Order::Repair(words) => repair(rt, words, follower, rows),
-        Order::Stock(word) => stock(rt, word, follower, rows),
-        Order::Orders(words) => orders(rt, words, follower, rows),
+// A follower, and the rows that are lent for its answers.
+#[derive(Drop)]
+pub(crate) struct Calls<'a, 'b> {
+    rt: &'b HostRuntime,
+    follower: Follower<'a, 'b>,
+    rows: &'a mut [BookRow],
+}
+
+// A call that brings no source of its own.
+type Plain<'c> = Call<'c, AnySource<'c>>;
+
+impl<'a, 'b> Calls<'a, 'b> {
+    pub(crate) fn new(
+        rt: &'b HostRuntime,
+        follower: Follower<'a, 'b>,
+        rows: &'a mut [BookRow],
+    ) -> Calls<'a, 'b> {
+        Calls { rt, follower, rows }
     }
-}
 
-// The starts, the stop, the lamp and the event code.
-fn simple(
-    rt: &HostRuntime,
-    bare: Bare,
-    follower: &mut Follower<'_, '_>,
-    rows: &mut [BookRow],
-) -> io::Result<()> {
-    let mut call = call_of(bare);
-    let outcome = follower.call(&mut call, rows);
-    let done = match bare {
-        Bare::Stop => "stopped",
-        _ => "started",
-    };
-    show::outcome(rt, outcome, done, rows)
-}
-
-fn call_of<'c>(bare: Bare) -> Call<'c, AnySource<'c>>
-    ensures { SourcesAgree Agrees result }
-{
-    match bare {
-        Bare::StartAtOne => Call::StartAtOne,
-        Bare::StartBySnapshot => Call::StartBySnapshot,
-        Bare::Stop => Call::Stop,
-        Bare::Lamp => Call::Lamp,
-        Bare::Event => Call::Ask(Question::Event),
+    // A line: its call is made, and what it answered is printed.
+    pub(crate) fn run(&mut self, line: &str) -> Result<(), Fault> {
+        match line {
+            "start one" => self.call(&mut Plain::StartAtOne),
+            "start snapshot" => self.call(&mut Plain::StartBySnapshot),
+            "stop" => self.call(&mut Plain::Stop),
+            "lamp" => self.call(&mut Plain::Lamp),
+            "event" => self.call(&mut Plain::Ask(Question::Event)),
+            _ => self.with_words(line),
+        }
     }
-}
 
-// `packet BYTES`
-fn packet(
-    rt: &HostRuntime,
-    word: &str,
-    follower: &mut Follower<'_, '_>,
-    rows: &mut [BookRow],
-) -> io::Result<()> {
-    let Some(bytes) = words::bytes(rt.alloc(), word)? else {
-        return show::bad_line(rt);
-    };
-    let outcome = follower.call(&mut Call::<AnySource<'_>>::Packet(bytes.as_slice()), rows);
-    show::outcome(rt, outcome, "", rows)
-}
-
-// `snapshot BYTES`
-fn snapshot(
-    rt: &HostRuntime,
-    word: &str,
-    follower: &mut Follower<'_, '_>,
-    rows: &mut [BookRow],
-) -> io::Result<()> {
-    let Some(bytes) = words::bytes(rt.alloc(), word)? else {
-        return show::bad_line(rt);
-    };
-    let outcome = follower.call(&mut Call::<AnySource<'_>>::Snapshot(bytes.as_slice()), rows);
-    show::outcome(rt, outcome, "", rows)
-}
-
-// `stock SYMBOL`
-fn stock(
-    rt: &HostRuntime,
-    word: &str,
-    follower: &mut Follower<'_, '_>,
-    rows: &mut [BookRow],
-) -> io::Result<()> {
-    let Some(symbol) = words::symbol(rt.alloc(), word)? else {
-        return show::bad_line(rt);
-    };
-    let question = Question::States(&symbol);
-    let outcome = follower.call(&mut Call::<AnySource<'_>>::Ask(question), rows);
-    show::outcome(rt, outcome, "", rows)
-}
-
-// `orders SYMBOL SIDE`
-fn orders(
-    rt: &HostRuntime,
-    words: &str,
-    follower: &mut Follower<'_, '_>,
-    rows: &mut [BookRow],
-) -> io::Result<()> {
-    let Some((word, side)) = words.split_once(' ') else {
-        return show::bad_line(rt);
-    };
-    let side = match side {
-        "B" => Side::Buy,
-        "S" => Side::Sell,
-        _ => return show::bad_line(rt),
-    };
-    let Some(symbol) = words::symbol(rt.alloc(), word)? else {
-        return show::bad_line(rt);
-    };
-    let question = Question::Orders(&symbol, side);
-    let outcome = follower.call(&mut Call::<AnySource<'_>>::Ask(question), rows);
-    show::outcome(rt, outcome, "", rows)
-}
-
-// `repair BUDGET SOURCE..` repairs from one source, a pair, or a pair of a pair and a third.
-fn repair(
-    rt: &HostRuntime,
-    words: &str,
-    follower: &mut Follower<'_, '_>,
-    rows: &mut [BookRow],
-) -> io::Result<()> {
-    let Some((budget, named)) = words.split_once(' ') else {
-        return show::bad_line(rt);
-    };
-    let (Some(budget), Some(stored)) = (words::field(budget), words::sources(rt.alloc(), named)?)
-    else {
-        return show::bad_line(rt);
-    };
-    match stored.as_slice() {
-        [one] => match one.open() {
-            Ok(one) => mend(rt, one, budget, follower, rows),
-            Err(refusal) => show::refused(rt, refusal),
-        },
-        [one, two] => match (one.open(), two.open()) {
-            (Ok(one), Ok(two)) => mend(rt, Pair::new(one, two), budget, follower, rows),
-            (Err(refusal), _) | (_, Err(refusal)) => show::refused(rt, refusal),
-        },
-        [one, two, three] => match (one.open(), two.open(), three.open()) {
-            (Ok(one), Ok(two), Ok(three)) => {
-                mend(
-                    rt,
-                    Pair::new(Pair::new(one, two), three),
-                    budget,
-                    follower,
-                    rows,
-                )
+    fn with_words(&mut self, line: &str) -> Result<(), Fault> {
+        let (first, words) = line.split_once(' ').ok_or(Fault::BadLine)?;
+        let heap = self.rt.alloc();
+        match first {
+            "packet" => {
+                let bytes = words::bytes(heap, words)?.ok_or(Fault::BadLine)?;
+                self.call(&mut Plain::Packet(bytes.as_slice()))
             }
-            (Err(refusal), _, _) | (_, Err(refusal), _) | (_, _, Err(refusal)) => {
-                show::refused(rt, refusal)
+            "snapshot" => {
+                let bytes = words::bytes(heap, words)?.ok_or(Fault::BadLine)?;
+                self.call(&mut Plain::Snapshot(bytes.as_slice()))
             }
-        },
-        _ => show::bad_line(rt),
+            "stock" => {
+                let symbol = words::symbol(heap, words)?.ok_or(Fault::BadLine)?;
+                self.call(&mut Plain::Ask(Question::States(&symbol)))
+            }
+            "capture" => self.capture(words),
+            "orders" => self.orders(words),
+            "repair" => self.repair(words),
+            _ => Err(Fault::BadLine),
+        }
     }
-}
 
-fn mend<S: Source + Drop>(
-    rt: &HostRuntime,
-    mut source: S,
-    budget: u32,
-    follower: &mut Follower<'_, '_>,
-    rows: &mut [BookRow],
-) -> io::Result<()>
-    requires { S.agrees source }
-{
-    let outcome = follower.call(&mut Call::Repair(&mut source, budget), rows);
-    show::outcome(rt, outcome, "", rows)
+    // `capture PATH` hands each packet of the file to the follower.
+    fn capture(&mut self, path: &str) -> Result<(), Fault> {
+        let Ok(file) = fs::read(self.rt, path) else {
+            println!(self.rt; "no file")?;
+            return Ok(());
+        };
+        let mut sums = Sums::default();
+        for packet in Packets(file.as_slice()) {
+            sums.add(self.follower.call(&mut Plain::Packet(packet), self.rows));
+        }
+        println!(self.rt; "{sums}")?;
+        Ok(())
+    }
+
+    // `orders SYMBOL SIDE`
+    fn orders(&mut self, words: &str) -> Result<(), Fault> {
+        let (symbol, side) = words.split_once(' ').ok_or(Fault::BadLine)?;
+        let [code] = side.as_bytes() else {
+            return Err(Fault::BadLine);
+        };
+        let side = Side::try_from(*code).map_err(|_| Fault::BadLine)?;
+        let symbol = words::symbol(self.rt.alloc(), symbol)?.ok_or(Fault::BadLine)?;
+        self.call(&mut Plain::Ask(Question::Orders(&symbol, side)))
+    }
+
+    // `repair BUDGET SOURCE..` repairs from one source, a pair, or a pair of a pair and a third.
+    fn repair(&mut self, words: &str) -> Result<(), Fault> {
+        let (budget, named) = words.split_once(' ').ok_or(Fault::BadLine)?;
+        let budget = field(budget).ok_or(Fault::BadLine)?;
+        let stored = words::sources(self.rt.alloc(), named)?;
+        // an arm for each number of sources, since each pair is of another type
+        match stored.as_slice() {
+            [one] => self.mend(one.open()?, budget),
+            [one, two] => self.mend(Pair::new(one.open()?, two.open()?), budget),
+            [one, two, three] => {
+                let pair = Pair::new(one.open()?, two.open()?);
+                self.mend(Pair::new(pair, three.open()?), budget)
+            }
+            _ => Err(Fault::BadLine),
+        }
+    }
+
+    fn mend<S: Source + Drop>(&mut self, mut source: S, budget: u32) -> Result<(), Fault> {
+        self.call(&mut Call::Repair(&mut source, budget))
+    }
+
+    fn call<S: Source + Drop>(&mut self, call: &mut Call<'_, S>) -> Result<(), Fault> {
+        let done = match call {
+            Call::Stop => "stopped",
+            _ => "started",
+        };
+        let answer = self.follower.call(call, self.rows)?;
+        show::answer(self.rt, answer, done, self.rows)?;
+        Ok(())
+    }
 }

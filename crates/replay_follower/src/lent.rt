@@ -1,10 +1,19 @@
 // What is lent to a follower: its slots, and rows for its answers.
-use crate::script::Slots;
 use book::{BookRow, Stock};
 use codes::Side;
 use running::HeldRow;
 use std::alloc::{AllocError, Global};
+use std::fmt;
 use wire::{OrderRow, Symbol};
+
+// How many slots a follower is lent for each table, and how many rows for answers.
+#[derive(Clone, Copy)]
+pub(crate) struct Slots {
+    pub(crate) stocks: usize,
+    pub(crate) orders: usize,
+    pub(crate) held: usize,
+    pub(crate) rows: usize,
+}
 
 #[derive(Drop)]
 pub(crate) struct Lent {
@@ -19,6 +28,16 @@ const NO_ROW: BookRow = BookRow {
     shares: 0,
     price: 0,
 };
+
+impl fmt::Display for Slots {
+    fn fmt<W: fmt::Write>(&self, f: &mut fmt::Formatter<W>) -> fmt::Result {
+        write!(
+            f,
+            "{} {} {} {}",
+            self.stocks, self.orders, self.held, self.rows
+        )
+    }
+}
 
 impl Lent {
     // As many of each as the script asks for. What they hold at first means nothing.

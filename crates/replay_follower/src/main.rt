@@ -3,127 +3,97 @@
 
 mod calls;
 mod captures;
-mod client;
-mod hex;
 mod lent;
 mod script;
 mod show;
 mod sources;
 mod words;
 
-use book::{Book, BookRow};
-use client::Connection;
+use book::Book;
+use calls::Calls;
 use follower::Follower;
-use lent::Lent;
-use running::HeldRow;
-use script::{Line, Script, Slots};
+use lent::{Lent, Slots};
+use script::Script;
+use scripts::{Client, Fault};
 use std::io;
 
+// What each line is run with; the client's lines need no follower.
+struct Lines<'a> {
+    rt: &'a HostRuntime,
+    client: Client,
+}
+
 fn main(rt: HostRuntime) -> io::Result<()> {
-    let mut script = Script::new(&rt)?;
-    let (connection, met) = before_slots(&rt, &mut script);
-    let (connection, result) = match met {
-        Ok(None) => (connection, Ok(())),
-        Ok(Some(slots)) => from_slots(&rt, &mut script, slots, connection),
-        Err(error) => (connection, Err(error)),
+    let mut lines = Lines {
+        rt: &rt,
+        client: Client::default(),
     };
-    let ended = client::end(&rt, connection);
-    result?;
-    ended
+    let ran = lines.run();
+    let Lines { rt, client } = lines;
+    let ended = client.end(rt);
+    ran.and(ended)
 }
 
-// The lines before the one that makes the follower, and what that one says.
-fn before_slots(rt: &HostRuntime, script: &mut Script) -> (Connection, io::Result<Option<Slots>>) {
-    let mut connection = Connection::Closed;
-    for _ in 0..u64::MAX {
-        let line = match script.next_line() {
-            Ok(Some(Line::Slots(slots))) => return (connection, Ok(Some(slots))),
-            Ok(Some(line)) => line,
-            Ok(None) => return (connection, Ok(None)),
-            Err(error) => return (connection, Err(error)),
+impl Lines<'_> {
+    // One follower is called by all lines behind the one that lends its slots.
+    fn run(&mut self) -> io::Result<()> {
+        let mut script = Script::new(self.rt)?;
+        let Some(slots) = self.before_slots(&mut script)? else {
+            return Ok(());
         };
-        let (next, done) = without_follower(rt, line, connection);
-        connection = next;
-        if let Err(error) = done {
-            return (connection, Err(error));
+        let mut lent = Lent::new(self.rt.alloc(), slots)?;
+        println!(self.rt; "slots {slots}")?;
+        let mut book = Book::new(lent.stocks.as_mut_slice(), lent.orders.as_mut_slice());
+        let follower = Follower::new(&mut book, lent.held.as_mut_slice());
+        let mut calls = Calls::new(self.rt, follower, lent.rows.as_mut_slice());
+        for line in script {
+            if let Err(fault) = self.with_follower(line?.as_slice(), &mut calls) {
+                fault.print(self.rt)?;
+            }
+        }
+        Ok(())
+    }
+
+    // The lines up to the one that lends the slots, and what that one says.
+    fn before_slots(&mut self, script: &mut Script) -> io::Result<Option<Slots>> {
+        for line in script.by_ref() {
+            match self.without_follower(line?.as_slice()) {
+                Ok(None) => {}
+                Ok(slots) => return Ok(slots),
+                Err(fault) => fault.print(self.rt)?,
+            }
+        }
+        Ok(None)
+    }
+
+    // A line where there is no follower, and the slots that it lends.
+    fn without_follower(&mut self, line: &[u8]) -> Result<Option<Slots>, Fault> {
+        let Some(text) = self.rest(line)? else {
+            return Ok(None);
+        };
+        let words = text.strip_prefix("slots ").ok_or(Fault::BadLine)?;
+        let slots = words::slots(words).ok_or(Fault::BadLine)?;
+        Ok(Some(slots))
+    }
+
+    // A line where there is a follower.
+    fn with_follower(&mut self, line: &[u8], calls: &mut Calls<'_, '_>) -> Result<(), Fault> {
+        match self.rest(line)? {
+            None => Ok(()),
+            Some(text) => calls.run(text),
         }
     }
-    (connection, Ok(None))
-}
 
-// The line that makes the follower, and those behind it.
-fn from_slots(
-    rt: &HostRuntime,
-    script: &mut Script,
-    slots: Slots,
-    connection: Connection,
-) -> (Connection, io::Result<()>) {
-    let Ok(mut lent) = Lent::new(rt.alloc(), slots) else {
-        return (connection, Err(io::ErrorKind::OutOfMemory.into()));
-    };
-    let Slots {
-        stocks,
-        orders,
-        held,
-        rows,
-    } = slots;
-    if let Err(error) = println!(rt; "slots {stocks} {orders} {held} {rows}") {
-        return (connection, Err(error));
-    }
-    let mut book = Book::new(lent.stocks.as_mut_slice(), lent.orders.as_mut_slice());
-    follow(
-        rt,
-        script,
-        &mut book,
-        lent.held.as_mut_slice(),
-        lent.rows.as_mut_slice(),
-        connection,
-    )
-}
-
-// One follower is called by all lines that are left.
-fn follow(
-    rt: &HostRuntime,
-    script: &mut Script,
-    book: &mut Book<'_>,
-    held: &mut [HeldRow],
-    rows: &mut [BookRow],
-    connection: Connection,
-) -> (Connection, io::Result<()>) {
-    let mut follower = Follower::new(book, held);
-    let mut connection = connection;
-    for _ in 0..u64::MAX {
-        let line = match script.next_line() {
-            Ok(Some(line)) => line,
-            Ok(None) => return (connection, Ok(())),
-            Err(error) => return (connection, Err(error)),
+    // A line that needs no follower is run; of any other the text is handed back.
+    fn rest<'l>(&mut self, line: &'l [u8]) -> Result<Option<&'l str>, Fault> {
+        let Some(text) = self.client.line(self.rt, script::text(line)?)? else {
+            return Ok(None);
         };
-        let (next, done) = match line {
-            Line::Follower(order) => (connection, calls::run(rt, order, &mut follower, rows)),
-            _ => without_follower(rt, line, connection),
+        let Some(word) = text.strip_prefix("request ") else {
+            return Ok(Some(text));
         };
-        connection = next;
-        if done.is_err() {
-            return (connection, done);
-        }
-    }
-    (connection, Ok(()))
-}
-
-// A line where no follower can be called or made.
-fn without_follower(
-    rt: &HostRuntime,
-    line: Line<'_>,
-    connection: Connection,
-) -> (Connection, io::Result<()>) {
-    match line {
-        Line::Silent => (connection, Ok(())),
-        Line::Say(text) => (connection, println!(rt; "{text}")),
-        Line::Login(words) => client::login(rt, words, connection),
-        Line::Beat => client::beat(rt, connection),
-        Line::Logout => client::logout(rt, connection),
-        Line::Lost => client::lost(rt, connection),
-        Line::Request(word) => (connection, client::request(rt, word)),
-        Line::Slots(_) | Line::Follower(_) | Line::Bad => (connection, show::bad_line(rt)),
+        let bytes = words::bytes(self.rt.alloc(), word)?.ok_or(Fault::BadLine)?;
+        scripts::request(self.rt, bytes.as_slice())?;
+        Ok(None)
     }
 }

@@ -1,12 +1,14 @@
 // The sources of a repair.
-ghost use Rattle.std.specs.Prelude.{◌≡◌, IfOk};
+ghost use Rattle.std.specs.Prelude.{◌≡◌};
 ghost use Rattle.wire.specs.Answers.{through};
-ghost use Rattle.replay_follower.specs.Sources.{meaning_of, Agrees, source_of};
+ghost use Rattle.replay_follower.specs.Sources.{meaning_of, source_of};
 
 use codes::Refusal;
 use dayfile::DayFile;
 use recovery::Recovery;
+use scripts::Fault;
 use source::{MessageBuffer, Source};
+use std::str::FromStr;
 use wire::Session;
 
 #[derive(Clone, Copy)]
@@ -15,7 +17,7 @@ pub(crate) enum Kind {
     File,
 }
 
-// The bytes of a source, and what they are to be read as.
+// The bytes of a source, and the kind that they are read as. `source_of` takes the two one by one, so they are no enum.
 #[derive(Drop)]
 pub(crate) struct Stored {
     pub(crate) kind: Kind,
@@ -29,39 +31,32 @@ pub(crate) enum AnySource<'a> {
     File(DayFile<'a>),
 }
 
-impl Kind {
-    pub(crate) fn read(word: &str) -> Option<Kind> {
+impl FromStr for Kind {
+    type Err = Fault;
+
+    fn from_str(word: &str) -> Result<Kind, Fault> {
         match word {
-            "session" => Some(Kind::Session),
-            "file" => Some(Kind::File),
-            _ => None,
+            "session" => Ok(Kind::Session),
+            "file" => Ok(Kind::File),
+            _ => Err(Fault::BadLine),
         }
     }
 }
 
 impl Stored {
     pub(crate) fn open(&self) -> Result<AnySource<'_>, Refusal>
-        ensures meaning { through meaning_of result ≡ source_of self.now.kind self.now.bytes.items }
-        ensures agrees { IfOk result Agrees }
+        ensures { through meaning_of result ≡ source_of self.now.kind self.now.bytes.items }
     {
         let bytes = self.bytes.as_slice();
         match self.kind {
-            Kind::Session => match Recovery::open(bytes) {
-                Ok(session) => Ok(AnySource::Session(session)),
-                Err(refusal) => Err(refusal),
-            },
-            Kind::File => match DayFile::open(bytes) {
-                Ok(file) => Ok(AnySource::File(file)),
-                Err(refusal) => Err(refusal),
-            },
+            Kind::Session => Recovery::open(bytes).map(AnySource::Session),
+            Kind::File => DayFile::open(bytes).map(AnySource::File),
         }
     }
 }
 
 impl<'a> Source for AnySource<'a> {
     ghost meaning = { meaning_of };
-
-    ghost agrees = { Agrees };
 
     fn session(&self) -> Session {
         match self {

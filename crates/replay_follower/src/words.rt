@@ -1,56 +1,24 @@
-// What the words of a line say: numbers, bytes, symbols and sources.
+// What the words of a line say: bytes, symbols, sizes and sources.
 ghost use Rattle.std.specs.Prelude.{◌≡◌, IfOk, vec_items};
 ghost use Rattle.std.specs.Option.{option_map};
 ghost use Rattle.replay_follower.specs.Words.{bytes_in, filled_up, symbol_in};
 
-use crate::hex;
-use crate::script::Slots;
+use crate::lent::Slots;
 use crate::sources::{Kind, Stored};
+use scripts::words::decimal;
+use scripts::{Fault, hex};
 use std::alloc::{AllocError, Global};
 use wire::SymbolBytes;
-
-// A number in decimal digits.
-pub(crate) fn decimal(digits: &str) -> Option<u64> {
-    if digits.starts_with('+') {
-        return None;
-    }
-    digits.parse::<u64>().ok()
-}
-
-// A number in decimal digits; one that no field could hold is as good as the largest.
-pub(crate) fn field(digits: &str) -> Option<u32> {
-    let number = decimal(digits)?;
-    Some(number.min(4_294_967_295) as u32)
-}
 
 // Bytes in pairs of hexadecimal digits, `-` for none.
 pub(crate) fn bytes(heap: Global, word: &str) -> Result<Option<Vec<u8>>, AllocError>
     ensures { IfOk result (λ o. option_map vec_items o ≡ bytes_in word.now) }
 {
-    let digits = word.as_bytes();
-    if digits.len() == 1 && digits[0] == b'-' {
-        return Ok(Some(Vec::new(heap)));
+    match word.as_bytes() {
+        [b'-'] => Ok(Some(Vec::new(heap))),
+        [] => Ok(None),
+        digits => hex::decode(heap, digits),
     }
-    if digits.is_empty() {
-        return Ok(None);
-    }
-    hex::decode(heap, digits)
-}
-
-// Exactly so many bytes in hexadecimal digits.
-pub(crate) fn exactly<const N: usize>(
-    heap: Global,
-    digits: &str,
-) -> Result<Option<[u8; N]>, AllocError> {
-    let Some(bytes) = hex::decode(heap, digits.as_bytes())? else {
-        return Ok(None);
-    };
-    if bytes.len() != N {
-        return Ok(None);
-    }
-    let mut field = [0; N];
-    field.copy_from_slice(bytes.as_slice());
-    Ok(Some(field))
 }
 
 // A symbol: text filled up with spaces, or `0x` and twelve digits.
@@ -58,13 +26,13 @@ pub(crate) fn symbol(heap: Global, word: &str) -> Result<Option<SymbolBytes>, Al
     ensures { IfOk result (λ o. o ≡ symbol_in word.now) }
 {
     let text = word.as_bytes();
-    if text.len() == 14 && text[0] == b'0' && text[1] == b'x' {
-        let Some(bytes) = hex::decode(heap, &text[2..])? else {
-            return Ok(None);
-        };
-        return Ok(filled(bytes.as_slice()));
+    match text {
+        [b'0', b'x', digits @ ..] if text.len() == 14 => {
+            let bytes = hex::decode(heap, digits)?;
+            Ok(bytes.and_then(|bytes| filled(bytes.as_slice())))
+        }
+        _ => Ok(filled(text)),
     }
-    Ok(filled(text))
 }
 
 // Text of one to six characters, filled up with spaces.
@@ -93,25 +61,16 @@ pub(crate) fn slots(words: &str) -> Option<Slots> {
 }
 
 // One source or more, each `session BYTES` or `file BYTES`.
-pub(crate) fn sources(heap: Global, words: &str) -> Result<Option<Vec<Stored>>, AllocError> {
+pub(crate) fn sources(heap: Global, words: &str) -> Result<Vec<Stored>, Fault> {
+    let words: Vec<&str> = words.split(' ').collect(heap)?;
     let mut stored = Vec::new(heap);
-    let mut named = None;
-    for word in words.split(' ') {
-        let Some(kind) = named else {
-            named = Kind::read(word);
-            if named.is_none() {
-                return Ok(None);
-            }
-            continue;
+    for named in words.as_slice().chunks(2) {
+        let [kind, word] = named else {
+            return Err(Fault::BadLine);
         };
-        let Some(bytes) = bytes(heap, word)? else {
-            return Ok(None);
-        };
+        let kind = kind.parse::<Kind>()?;
+        let bytes = bytes(heap, word)?.ok_or(Fault::BadLine)?;
         stored.push(Stored { kind, bytes })?;
-        named = None;
     }
-    if named.is_some() {
-        return Ok(None);
-    }
-    Ok(Some(stored))
+    Ok(stored)
 }

@@ -6,9 +6,8 @@ use Rattle.std.proofs.lemmas.Bool.Decides.{nat_tests}
 use Rattle.codes.specs.declared.refusal.Refusal.{Refusal}
 use Rattle.codes.specs.declared.refusal.Refusal.TheVariants.{NoRequest}
 use Rattle.wire.specs.Numbers.{be16}
-use Rattle.wire.specs.Names.{session_of}
+use Rattle.wire.specs.Names.{Session, session_of}
 use Rattle.wire.specs.Messages.{part}
-use Rattle.wire.specs.declared.session.Session.{Session}
 use Rattle.session.specs.Fields.{number_of, number_field}
 use Rattle.session.proofs.Digits.{reads_back}
 use Rattle.session.proofs.Exact.{field_length, number_within, field_exact}
@@ -82,11 +81,11 @@ written_reads request.Heartbeat allowed = refl
 -- nothing else is read as a request
 cond_ok : {X : Type 0} (t : Bool) (x y : X) → cond t (Ok x) (Err NoRequest) ≡ Ok y → (t ≡ true) × (x ≡ y)
 cond_ok true x y e = (refl, cc)
-cond_ok false x y e = let z : ◌≡◌ {A = ℕ} 0 1 = cc in absurd (omega arith)
+cond_ok false x y e = cc
 
 cond_some : {X : Type 0} (t : Bool) (o : Option X) (x : X) → cond t o None ≡ Some x → (t ≡ true) × (o ≡ Some x)
 cond_some true o x e = (refl, e)
-cond_some false o x e = let z : ◌≡◌ {A = ℕ} 0 1 = cc in absurd (omega arith)
+cond_some false o x e = cc
 
 -- the first three bytes
 module _ (m : List ℕ) (b : ℕ) (e : letter_of m ≡ Ok b) where
@@ -118,13 +117,13 @@ module _ (m : List ℕ) (b : ℕ) (e : letter_of m ≡ Ok b) where
 
 -- the four fields
 as_login_is : (o : Option Login) (r : Request) → as_login o ≡ Ok r → (l : Login) × (o ≡ Some l) × (request.Login l ≡ r)
-as_login_is None r e = let z : ◌≡◌ {A = ℕ} 0 1 = cc in absurd (omega arith)
+as_login_is None r e = cc
 as_login_is (Some l) r e = (l, refl, cc)
 
 login_by_is : (m : List ℕ) (s : Option Session) (n : Option ℕ) (l : Login) → login_by m s n ≡ Some l
     → (l.user ≡ part 3 6 m) × (l.password ≡ part 9 10 m) × (s ≡ Some l.session) × (n ≡ Some l.number)
-login_by_is m None n l e = let z : ◌≡◌ {A = ℕ} 0 1 = cc in absurd (omega arith)
-login_by_is m (Some s) None l e = let z : ◌≡◌ {A = ℕ} 0 1 = cc in absurd (omega arith)
+login_by_is m None n l e = cc
+login_by_is m (Some s) None l e = cc
 login_by_is m (Some s) (Some n) l e =
     let read : Login = record { user = part 3 6 m; password = part 9 10 m; session = s; number = n } in
     let same : l ≡ read = cc in
@@ -163,13 +162,10 @@ login_read m l e h =
     )
 
 -- by the letter
-not_ok : {X : Type 0} (refusal : Refusal) (r : Request) → ◌≡◌ {A = Result Request Refusal} (Err refusal) (Ok r) → X
-not_ok refusal r e = let z : ◌≡◌ {A = ℕ} 0 1 = cc in absurd (omega arith)
-
 module _ (m : List ℕ) (b : ℕ) (r : Request) (e : letter_of m ≡ Ok b) where
   by_heartbeat : (t : Bool) → eqb b 82 ≡ t → cond t (alone_as request.Heartbeat m) (Err NoRequest) ≡ Ok r → Written m r
   by_heartbeat true t h = alone_written m b e request.Heartbeat r tt (ap (λ x. 0 ∷ 1 ∷ x ∷ []) (sym (eqb-true b 82 t))) h
-  by_heartbeat false t h = not_ok NoRequest r h
+  by_heartbeat false t h = cc
 
   by_logout : (t : Bool) → eqb b 79 ≡ t → cond t (alone_as request.Logout m) (cond (eqb b 82) (alone_as request.Heartbeat m) (Err NoRequest)) ≡ Ok r → Written m r
   by_logout true t h = alone_written m b e request.Logout r tt (ap (λ x. 0 ∷ 1 ∷ x ∷ []) (sym (eqb-true b 79 t))) h
@@ -183,7 +179,7 @@ module _ (m : List ℕ) (b : ℕ) (r : Request) (e : letter_of m ≡ Ok b) where
 
 by_any : (m : List ℕ) (r : Request) (o : Result ℕ Refusal) → letter_of m ≡ o → request_by o m ≡ Ok r → Written m r
 by_any m r (Ok b) e h = by_login m b r e (eqb b 76) refl h
-by_any m r (Err refusal) e h = not_ok refusal r h
+by_any m r (Err refusal) e h = cc
 
 read_written : (m : List ℕ) (r : Request) → request_of m ≡ Ok r → Written m r
 unfolding request_of

@@ -1,12 +1,12 @@
 -- A client's requests: the bytes that each is written as, and what any bytes are read as.
 use Rattle.std.specs.Prelude.{◌≡◌, ℕ, ◌+◌, ◌≤◌, cond, ◌&&◌, List, [], ◌∷◌, ◌++◌, length, IfErr, Some, None, Ok, Err, Option, Result, ◌==◌, nat_le, slice_index}
+use Rattle.std.specs.Option.{option_map, ok_or}
 use Rattle.codes.specs.declared.refusal.Refusal.{Refusal}
 use Rattle.codes.specs.declared.refusal.Refusal.TheVariants.{NoRequest}
-use Rattle.wire.specs.Answers.{through, or_else}
+use Rattle.wire.specs.Answers.{through}
 use Rattle.wire.specs.Numbers.{most32, be16}
-use Rattle.wire.specs.Names.{session_of}
+use Rattle.wire.specs.Names.{Session, session_of}
 use Rattle.wire.specs.Messages.{part}
-use Rattle.wire.specs.declared.session.Session.{Session}
 use Rattle.session.specs.Fields.{number_of, number_field}
 use Rattle.request.specs.declared.login.Login.{Login}
 use Rattle.request.specs.declared.request.Request.{Request}
@@ -48,7 +48,7 @@ abbrev pub login_of : List ℕ → Option Login
 login_of m = cond (length m == 39) (login_by m (session_of (part 19 10 m)) (number_of (part 29 10 m))) None
 
 abbrev pub as_login : Option Login → Result Request Refusal
-as_login = or_else NoRequest request.Login
+as_login o = ok_or (option_map request.Login o) NoRequest
 
 abbrev pub alone_as : Request → List ℕ → Result Request Refusal
 alone_as r m = cond (length m == 3) (Ok r) (Err NoRequest)

@@ -4,7 +4,7 @@ ghost use Rattle.request.specs.Requests.{login_of, login_written};
 
 use codes::Refusal;
 use session::{read_number, write_number};
-use wire::Session;
+use wire::{Session, field};
 
 // The bytes of a Login Request.
 pub type LoginBytes = [u8; 39];
@@ -24,20 +24,12 @@ impl Login {
     pub(crate) fn read(bytes: &[u8]) -> Option<Login>
         ensures { result ≡ login_of bytes.now }
     {
-        if bytes.len() != 39 {
-            return None;
-        }
-        let mut user = [0; 6];
-        user.copy_from_slice(&bytes[3..9]);
-        let mut password = [0; 10];
-        password.copy_from_slice(&bytes[9..19]);
-        let session = Session::read(&bytes[19..29])?;
-        let number = read_number(&bytes[29..39])?;
+        let bytes = <&LoginBytes>::try_from(bytes).ok()?;
         Some(Login {
-            user,
-            password,
-            session,
-            number,
+            user: field(bytes, 3)?,
+            password: field(bytes, 9)?,
+            session: Session::read(&bytes[19..29])?,
+            number: read_number(&bytes[29..39])?,
         })
     }
 
@@ -57,6 +49,8 @@ impl Login {
 }
 
 // Copies a field to its offset: behind what stands before it, and up to the end where it is the last.
+// The offsets stand here as in the layout: a chain over the fields would show none, and would show no more.
+#[tactic(auto, using(std::proofs::lemmas::Slice::overwrites))]
 fn put(bytes: &mut [u8], at: usize, field: &[u8])
     requires { at + length field.now ≤ length bytes.old }
     ensures front { take (at + length field.now) bytes.new ≡ take at bytes.old ++ field.now }

@@ -38,19 +38,12 @@ fn lettered(letter: u8, bytes: &[u8]) -> Result<Request, Refusal>
     ensures { result ≡ by_letter letter bytes.now }
 {
     match letter as char {
-        'L' => login(bytes),
+        'L' => Login::read(bytes)
+            .map(Request::Login)
+            .ok_or(Refusal::NoRequest),
         'O' => alone(Request::Logout, bytes),
         'R' => alone(Request::Heartbeat, bytes),
         _ => Err(Refusal::NoRequest),
-    }
-}
-
-fn login(bytes: &[u8]) -> Result<Request, Refusal>
-    ensures { result ≡ as_login (login_of bytes.now) }
-{
-    match Login::read(bytes) {
-        Some(login) => Ok(Request::Login(login)),
-        None => Err(Refusal::NoRequest),
     }
 }
 

@@ -1,24 +1,20 @@
 -- Held rows in the words of the plain follower: what is held, and what is added.
-use Rattle.std.proofs.Common.{◌≡◌, ℕ, ◌<◌, ◌≤◌, Bool, true, false, cond, ltb, leb, List, [], ◌∷◌, map, length, is_some, is_ok, Some, None, Ok, Err, Result, Ordering, Less, Equal, Greater, sym, refl, ap, ◌∙◌, subst, arith}
+use Rattle.std.proofs.Common.{◌≡◌, ℕ, ◌≤◌, Bool, true, false, cond, ltb, List, [], ◌∷◌, map, length, is_some, is_ok, Some, None, Ok, Err, Result, Ordering, Less, Equal, Greater, sym, refl, ap, ◌∙◌, subst}
 use Rattle.std.proofs.lemmas.List.{length-map}
-use Rattle.std.proofs.lemmas.Bool.{and_parts, and_from, le-leb, cond-true, cond-false, lt-ltb, le-ltb, eq-eqb, ne_eqb}
-use Rattle.codes.specs.declared.cause.Cause.{Cause}
-use Rattle.wire.specs.Numbers.{most32}
+use Rattle.std.proofs.lemmas.Bool.{cond-false, le-ltb, ne_eqb}
 use Rattle.table.specs.Rows.{pick, found, placed}
 use Rattle.table.specs.Tables.{taken}
 use Rattle.table.specs.declared.NotAdded.{NotAdded}
 use Rattle.table.specs.declared.NotAdded.TheVariants.{Present, Full}
 use Rattle.book.specs.Keys.{by_number}
-use Rattle.book.specs.Plain.{Plain}
 use Rattle.following.specs.States.{Room, Held, Wanting, number_of, is_held, with_held}
 use Rattle.following.specs.Follower.{Place, bookless, wanting, Fate, kept, treated, run_wanted}
 use Rattle.following.specs.Follower as spec
 use Rattle.running.specs.declared.rows.HeldRow.{HeldRow}
 use Rattle.running.specs.declared.runner.Runner.{Runner}
-use Rattle.running.specs.declared.moves.Reached.{Reached}
-use Rattle.running.specs.declared.moves.Reached.TheVariants as led
-use Rattle.running.specs.Runners.{held_in, book_in, place_in}
-use Rattle.running.specs.Rows.{row_number, message_in, held_message, all_numbered}
+use Rattle.running.specs.declared.moves.Wanted.{Wanted as WantedOf}
+use Rattle.running.specs.Runners.{held_in, book_in, Reached, place_in}
+use Rattle.running.specs.Rows.{row_number, message_in, held_message}
 
 -- a row is found where its message is held
 pub found_held : (k : ℕ) (xs : List HeldRow) → is_some (found row_number by_number k xs) ≡ is_held k (map held_message xs)
@@ -47,24 +43,6 @@ placed_held row (x ∷ xs) = go (by_number x.number row.number) (placed_held row
     go Equal ih = refl
     go Greater ih = refl
 
-pub numbered_placed : (row : HeldRow) (xs : List HeldRow) → row_number row ≤ most32 → all_numbered xs ≡ true → all_numbered (placed row_number by_number row xs) ≡ true
-unfolding placed
-numbered_placed row [] l e = and_from (leb row.number most32) true (le-leb row.number most32 l) refl
-numbered_placed row (x ∷ xs) l e = go (by_number x.number row.number) (numbered_placed row xs l t.1)
-  where
-    t : (leb x.number most32 ≡ true) × (all_numbered xs ≡ true)
-    t = and_parts (leb x.number most32) (all_numbered xs) e
-
-    n : leb row.number most32 ≡ true
-    n = le-leb row.number most32 l
-
-    go :
-        (r : Ordering) → all_numbered (placed row_number by_number row xs) ≡ true →
-        all_numbered (pick r (x ∷ placed row_number by_number row xs) (row ∷ xs) (row ∷ x ∷ xs)) ≡ true
-    go Less ih = and_from (leb x.number most32) (all_numbered (placed row_number by_number row xs)) t.0 ih
-    go Equal ih = and_from (leb row.number most32) (all_numbered xs) n t.1
-    go Greater ih = and_from (leb row.number most32) (all_numbered (x ∷ xs)) n e
-
 -- what the table's answer says of the message
 abbrev pub fate_by : Result (Unit {0}) NotAdded → Fate
 fate_by (Ok u) = spec.taken
@@ -74,15 +52,6 @@ fate_by (Err Full) = spec.dropped
 -- the rows after the table's answer
 abbrev pub rows_by : Result (Unit {0}) NotAdded → HeldRow → List HeldRow → List HeldRow
 rows_by r row xs = cond (is_ok r) (placed row_number by_number row xs) xs
-
-numbered_by : (r : Result (Unit {0}) NotAdded) (row : HeldRow) (xs : List HeldRow) → row_number row ≤ most32 → all_numbered xs ≡ true → all_numbered (rows_by r row xs) ≡ true
-numbered_by (Ok u) row xs l e = numbered_placed row xs l e
-numbered_by (Err why) row xs l e = e
-
-pub numbered_of :
-    (row : HeldRow) (xs : List HeldRow) (k : ℕ) (r : Result (Unit {0}) NotAdded) (after : List HeldRow) →
-    row_number row ≡ k → k ≤ most32 → all_numbered xs ≡ true → after ≡ rows_by r row xs → all_numbered after ≡ true
-numbered_of row xs k r after n l e a = ap all_numbered a ∙ numbered_by r row xs (omega (arith, n)) e
 
 module _ (room : Room) (place : List Held → Place) (row : HeldRow) (xs : List HeldRow) where
   abbrev answer : Result (Unit {0}) NotAdded → Fate × Place
@@ -125,45 +94,26 @@ kept_of room row xs k m r after n b e a place =
 
 -- one message of a packet, by where the messages have led
 module _ (room : Room) (before : Runner) (reached : Reached) (k : ℕ) (m : List ℕ) where
-  pub treated_stopped :
-      (n : ℕ) (cause : Cause) → reached ≡ led.Stopped n cause →
-      (spec.unread, place_in before reached) ≡ treated room (place_in before reached) k m
-  unfolding treated
-  treated_stopped n cause e = let P : Reached → Type 0 = λ r. (spec.unread, place_in before r) ≡ treated room (place_in before r) k m in subst P (sym e) refl
-
   pub treated_bookless :
-      (after : Runner) (fate : Fate) → reached ≡ led.NoBook →
+      (after : Runner) (fate : Fate) → reached ≡ Ok None →
       (fate, bookless (held_in after)) ≡ kept room bookless (held_in before) k m →
       (fate, place_in after reached) ≡ treated room (place_in before reached) k m
   unfolding treated
   treated_bookless after fate e h = let P : Reached → Type 0 = λ r. (fate, place_in after r) ≡ treated room (place_in before r) k m in subst P (sym e) h
 
-  module _ (w : ℕ) (e : reached ≡ led.Wanting w) where
+  module _ (w : WantedOf) (e : reached ≡ Ok (Some w)) where
     abbrev here : Wanting
-    here = record { book = book_in before; wanted = w }
-
-    pub treated_below : k < w → (spec.repeated, wanting here (held_in before)) ≡ treated room (place_in before reached) k m
-    unfolding treated
-    treated_below l =
-        sym (cond-true _ _ _ (lt-ltb k w l))
-        ∙ ap (λ r. treated room (place_in before r) k m) (sym e)
-
-    pub treated_wanted : k ≡ w → (place : Place) → place ≡ run_wanted room here m (held_in before) → (spec.taken, place) ≡ treated room (place_in before reached) k m
-    unfolding treated
-    treated_wanted q place h =
-        ap (λ p. (spec.taken, p)) h
-        ∙ sym (cond-true _ _ _ (eq-eqb k w q))
-        ∙ sym (cond-false _ _ _ (le-ltb k w (omega arith)))
-        ∙ ap (λ r. treated room (place_in before r) k m) (sym e)
+    here = record { book = book_in before; wanted = w.number }
 
     pub treated_above :
-        w ≤ k → (k ≡ w → ⊥) → (book : Plain) (fate : Fate) (held : List Held) → book ≡ book_in before →
-        (fate, wanting here held) ≡ kept room (wanting here) (held_in before) k m →
-        (fate, wanting (record { book = book; wanted = w }) held) ≡ treated room (place_in before reached) k m
+        w.number ≤ k → (k ≡ w.number → ⊥) → (after : Runner) (fate : Fate) → book_in after ≡ book_in before →
+        (fate, wanting here (held_in after)) ≡ kept room (wanting here) (held_in before) k m →
+        (fate, place_in after reached) ≡ treated room (place_in before reached) k m
     unfolding treated
-    treated_above l n book fate held b h =
-        ap (λ x. (fate, wanting (record { book = x; wanted = w }) held)) b
+    treated_above l n after fate b h =
+        ap (λ r. (fate, place_in after r)) e
+        ∙ ap (λ x. (fate, wanting (record { book = x; wanted = w.number }) (held_in after))) b
         ∙ h
-        ∙ sym (cond-false _ _ _ (ne_eqb k w n))
-        ∙ sym (cond-false _ _ _ (le-ltb k w l))
+        ∙ sym (cond-false _ _ _ (ne_eqb k w.number n))
+        ∙ sym (cond-false _ _ _ (le-ltb k w.number l))
         ∙ ap (λ r. treated room (place_in before r) k m) (sym e)

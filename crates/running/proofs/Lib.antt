@@ -1,5 +1,4 @@
 pub mod Counting
-pub mod Fronts
 pub mod Keeping
 pub mod Loading
 pub mod Mending

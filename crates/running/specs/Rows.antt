@@ -1,6 +1,5 @@
 -- The rows of held messages.
-use Rattle.std.specs.Prelude.{ℕ, min, Bool, true, ◌&&◌, List, [], ◌∷◌, take, nat_le}
-use Rattle.wire.specs.Numbers.{most32}
+use Rattle.std.specs.Prelude.{ℕ, min, List, take}
 use Rattle.following.specs.States.{Held}
 use Rattle.running.specs.declared.rows.HeldRow.{HeldRow}
 
@@ -13,8 +12,3 @@ message_in row = take (min row.length 80) row.bytes
 
 abbrev pub held_message : HeldRow → Held
 held_message row = record { number = row.number; bytes = message_in row }
-
--- every number is one that there can be
-abbrev pub all_numbered : List HeldRow → Bool
-all_numbered [] = true
-all_numbered (row ∷ rows) = nat_le row.number most32 && all_numbered rows

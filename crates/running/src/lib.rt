@@ -5,6 +5,6 @@ mod moves;
 mod rows;
 mod runner;
 
-pub use moves::{Reached, Repair, Treated};
+pub use moves::{Reached, Repair, Stop, Treated, Wanted};
 pub use rows::{ByNumber, HeldRow};
 pub use runner::Runner;

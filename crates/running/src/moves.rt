@@ -1,27 +1,32 @@
 // Where messages lead, and what becomes of them.
+ghost use Rattle.std.specs.Prelude.{◌≤◌, suc};
+ghost use Rattle.wire.specs.Numbers.{most32};
+
 use codes::Cause;
 use following::Ending;
 
-/// Where the messages have led so far.
-#[derive(Clone, Copy)]
-pub enum Reached {
-    /// there is no book yet
-    NoBook,
-    /// the book wants the message of this number
-    Wanting(u32),
-    /// the message of this number stopped the book
-    Stopped { number: u32, cause: Cause },
+/// The number of the message that a book wants next: at most one above the largest.
+#[derive(Clone, Copy, PartialEq, Eq)]
+pub struct Wanted {
+    pub number: u32,
+    pub ghost within: { number ≤ suc most32 },
 }
 
-// The message that stopped the book.
-#[derive(Clone, Copy)]
-pub(crate) struct Stop {
-    pub(crate) number: u32,
-    pub(crate) cause: Cause,
+/// The message that stopped the book.
+#[derive(Clone, Copy, PartialEq, Eq)]
+pub struct Stop {
+    pub number: u32,
+    pub cause: Cause,
+    pub ghost within: { number ≤ most32 },
 }
 
-/// What became of one message of a packet.
-#[derive(Clone, Copy)]
+/// Where the messages have led so far: to what the book wants next, none without a book, or to the message that
+/// stopped it.
+pub type Reached = Result<Option<Wanted>, Stop>;
+
+/// What became of one message of a packet: run or held, there or run before, met by full slots, or behind one that
+/// stopped the book.
+#[derive(Clone, Copy, PartialEq, Eq)]
 pub enum Treated {
     Taken,
     Repeated,

@@ -1,19 +1,19 @@
 // The rows of held messages.
 ghost use Rattle.std.specs.Prelude.{◌≡◌, ◌≤◌, length};
-ghost use Rattle.book.specs.Keys.{by_number};
-ghost use Rattle.std.specs.Cmp.{nat_cmp_total};
-ghost use Rattle.table.proofs.Laws.{total_lawful};
-ghost use Rattle.running.specs.Rows.{row_number, message_in};
+ghost use Rattle.wire.specs.Numbers.{most32};
 
-use std::cmp::Ordering;
 use table::Row;
+use wire::Numbered;
 
 /// A held message: its number, and its bytes at the front of the 80.
+// A slot is lent memory of one size, so that the length stands beside the bytes.
 #[derive(Clone, Copy)]
 pub struct HeldRow {
     number: u32,
     length: u8,
     bytes: [u8; 80],
+    pub ghost numbered: { number ≤ most32 },
+    pub ghost sized: { length ≤ 80 },
 }
 
 /// Held messages in the order of their numbers.
@@ -21,7 +21,9 @@ pub struct HeldRow {
 pub struct ByNumber;
 
 impl HeldRow {
-    /// A slot that holds no message, to be lent to a follower.
+    ghost use Rattle.running.specs.Rows.{row_number, message_in};
+
+    /// A slot that holds no message, to be lent to a follower: a constant, so that an array of slots can repeat it.
     pub const EMPTY: HeldRow = HeldRow {
         number: 0,
         length: 0,
@@ -29,16 +31,16 @@ impl HeldRow {
     };
 
     // The row of a message.
-    pub(crate) fn new(number: u32, message: &[u8]) -> HeldRow
-        requires { length message.now ≤ 80 }
-        ensures number { row_number result ≡ number }
-        ensures message { message_in result ≡ message.now }
+    pub(crate) fn new(message: Numbered<'_>) -> HeldRow
+        ensures number { row_number result ≡ message.entry.number }
+        ensures message { message_in result ≡ message.entry.bytes.now }
     {
-        let length = message.len();
+        let length = message.bytes.len();
+        // A message is up to 80 bytes long, so that none converts to the array.
         let mut bytes = [0; 80];
-        bytes[0..length].copy_from_slice(message);
+        bytes[..length].copy_from_slice(message.bytes);
         HeldRow {
-            number,
+            number: message.number,
             length: length as u8,
             bytes,
         }
@@ -53,25 +55,18 @@ impl HeldRow {
     pub(crate) fn message(&self) -> &[u8]
         ensures { result.now ≡ message_in self.now }
     {
-        let length = usize::from(self.length).min(80);
-        &self.bytes[0..length]
+        &self.bytes[..usize::from(self.length)]
     }
 }
 
 impl Row<ByNumber> for HeldRow {
+    ghost use Rattle.running.specs.Rows.{row_number};
+
     type Key = u32;
 
     ghost key = { row_number };
 
-    ghost order = { by_number };
-
-    ghost lawful = { total_lawful nat_cmp_total };
-
     fn key_of(&self) -> u32 {
-        self.number
-    }
-
-    fn compare(a: &u32, b: &u32) -> Ordering {
-        a.cmp(b)
+        self.number()
     }
 }

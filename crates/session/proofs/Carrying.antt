@@ -1,26 +1,26 @@
 -- One message more of what a session carries.
-use Rattle.std.proofs.Common.{◌≡◌, ℕ, ◌≤◌, true, false, ◌&&◌, ◌||◌, eqb, ◌⊎◌, List, [], ◌∷◌, length, arith}
-use Rattle.std.proofs.lemmas.Bool.{cond_both, and_parts, leb-true}
-use Rattle.std.proofs.lemmas.Bool.Decides.{nat_tests}
+use Rattle.std.proofs.Common.{◌≡◌, ℕ, ◌≤◌, cond, ◌&&◌, ◌||◌, eqb, ◌==◌, List, [], ◌∷◌, length, sym, refl, ap, ◌∙◌, ⊎_elim}
+use Rattle.std.proofs.lemmas.Bool.{cond-true, cond-false, cond_both, cases_Bool, and_parts, leb-true}
 use Rattle.std.specs.List.{AllByRecursion as All}
-use Rattle.session.specs.Sessions.{Framed}
+use Rattle.session.specs.Sessions.{Framed, told}
 use Rattle.session.specs.Carried.{message_sized, carried}
+use Rattle.session.proofs.Framing.{told_first}
 
-pub carried_skip : (m : Framed) (ms : List Framed) → (m.letter ≡ 43) ⊎ (m.letter ≡ 72) → carried (m ∷ ms) ≡ carried ms
+-- the messages skipped in front carry nothing
+carried_told : (ms : List Framed) → carried ms ≡ carried (told ms)
 unfolding carried
-carried_skip m ms h = grind (arith, nat_tests)
+carried_told [] = refl
+carried_told (m ∷ ms) =
+    ⊎_elim (λ e. cond-true _ _ _ e ∙ carried_told ms ∙ sym (ap carried (cond-true _ _ _ e))) (λ e. sym (ap carried (cond-false _ _ _ e)))
+    (cases_Bool (eqb m.letter 43 || eqb m.letter 72))
 
-pub carried_message : (m : Framed) (ms : List Framed) → m.letter ≡ 83 → message_sized m.body ≡ true → carried (m ∷ ms) ≡ m.body ∷ carried ms
+pub carried_none : (ms : List Framed) → told ms ≡ [] → carried ms ≡ []
 unfolding carried
-carried_message m ms s h = grind (arith, nat_tests)
+carried_none ms e = carried_told ms ∙ ap carried e
 
-pub carried_small : (m : Framed) (ms : List Framed) → m.letter ≡ 83 → message_sized m.body ≡ false → carried (m ∷ ms) ≡ []
+pub carried_on : (xs ms : List Framed) (m : Framed) → told xs ≡ m ∷ ms → carried xs ≡ cond (m.letter == 83 && message_sized m.body) (m.body ∷ carried ms) []
 unfolding carried
-carried_small m ms s h = grind (arith, nat_tests)
-
-pub carried_stray : (m : Framed) (ms : List Framed) → (m.letter ≡ 43 → ⊥) → (m.letter ≡ 72 → ⊥) → (m.letter ≡ 83 → ⊥) → carried (m ∷ ms) ≡ []
-unfolding carried
-carried_stray m ms a b s = grind (arith, nat_tests)
+carried_on xs ms m e = carried_told xs ∙ ap carried e ∙ cond-false _ _ _ (told_first xs ms m e)
 
 -- each message that is carried has 5 to 80 bytes
 abbrev pub MessageSized : List ℕ → Type 0

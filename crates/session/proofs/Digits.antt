@@ -1,29 +1,66 @@
 -- Number fields: one byte more, and that what is written reads back.
-use Rattle.std.proofs.Common.{◌≡◌, ℕ, zero, suc, ◌+◌, ◌-◌, ◌/◌, ◌%◌, ◌^◌, ◌<◌, ◌≤◌, List, [], ◌∷◌, ◌++◌, length, get_or, take, drop, set, replicate, Some, None, decimal, Option, sym, refl, ap, ◌∙◌, subst, add-one, arith}
+use Rattle.std.proofs.Common.{◌≡◌, ℕ, zero, suc, ◌+◌, ◌-◌, ◌/◌, ◌%◌, ◌^◌, ◌<◌, ◌≤◌, List, [], ◌∷◌, ◌++◌, length, get_or, take, drop, set, replicate, ◌==◌, not, Some, None, decimal, Option, sym, refl, ap, ◌∙◌, subst, ⊎_elim, add-one, arith, MatchOption, Bor, Iter}
+use Rattle.std.specs.Iterator.{Yields}
+use Rattle.std.specs.List.{position, position_or_len, FoldsTo}
+use Rattle.std.specs.Slice.Iter.{iter_steps, iter_rest}
+use Rattle.std.proofs.lemmas.Option.{cond_some}
 use Rattle.std.proofs.lemmas.Fmt.{decimal_digit, decimal_step, decimal_by_steps, first_decimal, decimal_nonempty, length-decimal-le}
-use Rattle.std.proofs.lemmas.List.{append_assoc, length-set, length-append, length-drop, take-take, take-replicate, take-set, drop-set, set_split, at_drop_more, at_drop_all}
-use Rattle.std.proofs.lemmas.Bool.{cond-true, cond-false, eq-eqb, ne_eqb}
+use Rattle.std.proofs.lemmas.List.{append_assoc, length-set, length-append, length-drop, take-take, take-replicate, take-set, drop-set, set_split, take_rest, drop_all}
+use Rattle.std.proofs.lemmas.Bool.{cond-true, cond-false, ne_eqb, cases_Bool}
 use Rattle.std.proofs.lemmas.Bool.Decides.{nat_tests}
 use Rattle.wire.specs.Numbers.{most32}
 use Rattle.session.specs.Fields.{unpadded, one_more, digits_after, numeral, number_of, number_field}
 
--- one byte more of the spaces in front
-pub unpadded_at : (xs : List ℕ) (i : ℕ) → i < length xs → get_or xs i 0 ≡ 32 → unpadded (drop i xs) ≡ unpadded (drop (i + 1) xs)
-unpadded_at xs i l e = at_drop_more unpadded xs i 0 l ∙ cond-true _ _ _ (eq-eqb (get_or xs i 0) 32 e)
+-- what stands behind the spaces in front
+unpadded_from : (xs : List ℕ) → unpadded xs ≡ drop (position_or_len (λ b. not (b == 32)) xs) xs
+unpadded_from [] = refl
+unpadded_from (b ∷ bs) =
+    let n = position_or_len (λ b. not (b == 32)) bs in
+    ⊎_elim
+    (λ t. let more : suc n ≡ 1 + n = omega arith in
+    cond-true _ _ _ t ∙ unpadded_from bs ∙ ap (λ m. drop m (b ∷ bs)) more ∙ sym (ap (λ m. drop m (b ∷ bs)) (cond-true (not (not (b == 32))) (1 + n) 0 (ap (λ v. not (not v)) t))))
+    (λ f. cond-false _ _ _ f ∙ sym (ap (λ m. drop m (b ∷ bs)) (cond-false (not (not (b == 32))) (1 + n) 0 (ap (λ v. not (not v)) f))))
+    (cases_Bool (b == 32))
 
-pub unpadded_from : (xs : List ℕ) (i : ℕ) → i < length xs → (get_or xs i 0 ≡ 32 → ⊥) → unpadded (drop i xs) ≡ drop i xs
-unpadded_from xs i l e =
-    at_drop_more unpadded xs i 0 l ∙ cond-false _ _ _ (ne_eqb (get_or xs i 0) 32 e) ∙ sym (at_drop_more (λ ys. ys) xs i 0 l)
+-- the number behind the spaces, where they end
+behind : (xs : List ℕ) (i : ℕ) → i ≡ position_or_len (λ b. not (b == 32)) xs → numeral (take (length xs - i) (drop i xs)) ≡ number_of xs
+unfolding number_of
+behind xs i e = ap numeral (take_rest xs i ∙ ap (λ j. drop j xs) e ∙ sym (unpadded_from xs))
+
+pub number_behind : (xs : List ℕ) (i : ℕ) → position (λ b. not (b == 32)) xs ≡ Some i → numeral (take (length xs - i) (drop i xs)) ≡ number_of xs
+number_behind xs i e = behind xs i (sym (cond_some _ _ _ e).1)
+
+pub all_spaces : (xs : List ℕ) → position (λ b. not (b == 32)) xs ≡ None → number_of xs ≡ None
+unfolding number_of
+all_spaces xs e =
+    let n = position_or_len (λ b. not (b == 32)) xs in
+    let long : length xs ≤ n = grind (arith, nat_tests) in
+    ap numeral (unpadded_from xs ∙ drop_all n xs long)
 
 -- one digit more
-abbrev after : List ℕ → Option ℕ → Option ℕ
+abbrev pub after : List ℕ → Option ℕ → Option ℕ
 after bs o = elim o [ None ↦ None | Some w ↦ digits_after w bs ]
 
-pub digits_at : (v : ℕ) (xs : List ℕ) (i : ℕ) (o : Option ℕ) → i < length xs → o ≡ one_more v (get_or xs i 0) → digits_after v (drop i xs) ≡ after (drop (i + 1) xs) o
-digits_at v xs i o l e = at_drop_more (digits_after v) xs i 0 l ∙ ap (after (drop (i + 1) xs)) (sym e)
+no_digits : (xs : List ℕ) → length xs ≡ 0 → xs ≡ []
+no_digits [] e = refl
+no_digits (x ∷ xs) e = absurd (omega arith)
 
-pub digits_end : (v : ℕ) (xs : List ℕ) (i : ℕ) → length xs ≤ i → digits_after v (drop i xs) ≡ Some v
-digits_end v xs i l = at_drop_all (digits_after v) xs i l
+-- a fold over the digits
+module _ {F : Type 0} (turn : F × ℕ → Bor ℕ → F × ℕ → Type 0) (adds : (p q : F × ℕ) (x : Bor ℕ) → turn p x q → Some q.1 ≡ one_more p.1 x.now) where
+  folded : (xs : List (Bor ℕ)) (s t : Iter ℕ) (p q : F × ℕ) → Yields iter_steps s xs t → FoldsTo turn p xs q → digits_after p.1 (iter_rest s) ≡ digits_after q.1 (iter_rest t)
+  folded [] s t p q y w = ap (λ (z : F × ℕ). digits_after z.1 (iter_rest s)) w ∙ ap (λ (z : Iter ℕ). digits_after q.1 (iter_rest z)) y
+  folded (x ∷ xs) s t p q y w =
+      ap (digits_after p.1) y.1 ∙ sym (ap (after (iter_rest y.0)) (adds p w.0 x w.1)) ∙ folded xs y.0 t w.0 q y.2 w.2
+
+  -- it comes to the value, or stops at a byte that gives none
+  pub value_folded : (xs : List (Bor ℕ)) (s t u : Iter ℕ) (o : Option (Bor ℕ)) (p q : F × ℕ) (r : Option ℕ) (Stop : Bor ℕ → Type 0)
+      → Yields iter_steps s xs t → iter_steps t o u → FoldsTo turn p xs q → MatchOption o (r ≡ Some q.1) Stop
+      → ((x : Bor ℕ) → Stop x → (None ≡ one_more q.1 x.now) × (r ≡ None))
+      → r ≡ digits_after p.1 (iter_rest s)
+  value_folded xs s t u None p q r Stop y step w e stop =
+      e ∙ sym (folded xs s t p q y w ∙ ap (digits_after q.1) (no_digits (iter_rest t) step.0))
+  value_folded xs s t u (Some x) p q r Stop y step w e stop =
+      (stop x e).1 ∙ sym (folded xs s t p q y w ∙ ap (digits_after q.1) step ∙ sym (ap (after (iter_rest u)) (stop x e).0))
 
 -- a digit behind others
 abbrev push : ℕ → Option ℕ → Option ℕ
@@ -117,11 +154,12 @@ module _ (n left at : ℕ) (field : List ℕ) (small : n ≤ most32) (w : Writin
         few = omega (arith, w.few);
       }
 
-  pub written : left < 10 → set field at (48 + left) ≡ number_field n
+  pub written : left < 10 → set field at (48 + left % 10) ≡ number_field n
   written low =
+      let last : left % 10 ≡ left = omega arith in
       let one = decimal_digit left low in
       let count : at ≡ 10 - length (decimal n) = omega (arith, lengths, ap length one) in
-      set_split field at (48 + left) (omega arith) ∙ ap (λ r. r ++ (48 + left) ∷ drop (suc at) field) before
+      ap (λ d. set field at (48 + d)) last ∙ set_split field at (48 + left) (omega arith) ∙ ap (λ r. r ++ (48 + left) ∷ drop (suc at) field) before
       ∙ ap (λ k. replicate at 32 ++ (48 + left) ∷ drop k field) (sym (add-one at))
       ∙ ap (λ r. replicate at 32 ++ r) (sym (ap (λ r. r ++ drop (at + 1) field) one) ∙ w.joined)
       ∙ ap (λ k. replicate k 32 ++ decimal n) count

@@ -4,8 +4,10 @@ use Rattle.std.proofs.lemmas.Fmt.{decimal_digit, decimal_step, length-decimal-le
 use Rattle.std.proofs.lemmas.List.{append_assoc, append-nil, length-append, length-replicate}
 use Rattle.std.proofs.lemmas.Bool.{cond-true, cond-false, eqb-true, eqb-false, cases_Bool}
 use Rattle.std.proofs.lemmas.Bool.Decides.{nat_tests}
+use Rattle.std.proofs.lemmas.Option.{none-some}
 use Rattle.wire.specs.Numbers.{most32}
 use Rattle.session.specs.Fields.{unpadded, one_more, digits_after, zero_alone, numeral, number_of, number_field}
+use Rattle.session.proofs.Digits.{after}
 
 -- it is ten bytes long
 pub field_length : (n : ℕ) → n ≤ most32 → length (number_field n) ≡ 10
@@ -30,9 +32,6 @@ padded (b ∷ bs) =
 abbrev Says : List ℕ → ℕ → Type 0
 Says ds n = (ds ≡ decimal n) × (n ≤ most32)
 
-none_some : (n : ℕ) → ◌≡◌ {A = Option ℕ} None (Some n) → ⊥
-none_some n e = let z : ◌≡◌ {A = ℕ} 0 1 = cc in omega arith
-
 one_digit : (b w : ℕ) → one_more 0 b ≡ Some w → Says (b ∷ []) w
 one_digit b w e =
     let low : w < 10 = grind (arith, nat_tests) in
@@ -50,13 +49,10 @@ digit_more ds v b w some says e =
     )
 
 -- one digit and those behind it, after the digits of v
-abbrev after : List ℕ → Option ℕ → Option ℕ
-after bs o = elim o [ None ↦ None | Some w ↦ digits_after w bs ]
-
 digit_then : (o : Option ℕ) (ds bs : List ℕ) (v b n : ℕ) → 0 < v → Says ds v → o ≡ one_more v b
     → ((w : ℕ) → 0 < w → Says (ds ++ b ∷ []) w → digits_after w bs ≡ Some n → Says ((ds ++ b ∷ []) ++ bs) n)
     → after bs o ≡ Some n → Says (ds ++ b ∷ bs) n
-digit_then None ds bs v b n some says e rest h = absurd (none_some n h)
+digit_then None ds bs v b n some says e rest h = absurd (none-some n h)
 digit_then (Some w) ds bs v b n some says e rest h =
     let more : 0 < w = grind (arith, nat_tests) in
     let all = rest w more (digit_more ds v b w some says (sym e)) h in
@@ -70,7 +66,7 @@ digits_say ds (b ∷ bs) v n some says e =
     digit_then (one_more v b) ds bs v b n some says refl (λ w more now h. digits_say (ds ++ b ∷ []) bs w n more now h) e
 
 first_then : (o : Option ℕ) (b : ℕ) (bs : List ℕ) (n : ℕ) → (b ≡ 48 → ⊥) → o ≡ one_more 0 b → after bs o ≡ Some n → Says (b ∷ bs) n
-first_then None b bs n ne e h = absurd (none_some n h)
+first_then None b bs n ne e h = absurd (none-some n h)
 first_then (Some w) b bs n ne e h =
     let some : 0 < w = grind (arith, nat_tests) in
     digits_say (b ∷ []) bs w n some (one_digit b w (sym e)) h
@@ -79,10 +75,10 @@ zero_says : (b : ℕ) (bs : List ℕ) (n : ℕ) → b ≡ 48 → zero_alone bs �
 zero_says b [] n z e =
     let same : 0 ≡ n = cc in
     (ap (λ d. d ∷ []) z ∙ sym (decimal_digit 0 (omega arith)) ∙ ap decimal same, omega arith)
-zero_says b (x ∷ bs) n z e = absurd (none_some n e)
+zero_says b (x ∷ bs) n z e = absurd (none-some n e)
 
 numeral_says : (ds : List ℕ) (n : ℕ) → numeral ds ≡ Some n → Says ds n
-numeral_says [] n e = absurd (none_some n e)
+numeral_says [] n e = absurd (none-some n e)
 numeral_says (b ∷ bs) n e =
     ⊎_elim
     (λ t. zero_says b bs n (eqb-true b 48 t) (sym (cond-true _ _ _ t) ∙ e))

@@ -1,8 +1,9 @@
 -- One message more of a session.
-use Rattle.std.proofs.Common.{◌≡◌, ℕ, zero, suc, ◌+◌, ◌≤◌, List, [], ◌∷◌, length, drop, Some, None, Option, sym, refl, ap, ◌∙◌, arith}
+use Rattle.std.proofs.Common.{◌≡◌, ℕ, zero, suc, ◌+◌, ◌≤◌, false, cond, ◌||◌, eqb, ◌==◌, List, [], ◌∷◌, length, drop, Some, None, Option, sym, refl, ap, ◌∙◌, ⊎_elim, arith}
+use Rattle.std.proofs.lemmas.Bool.{cond-true, cond-false, cases_Bool}
 use Rattle.std.proofs.lemmas.List.{length-drop}
 use Rattle.std.proofs.lemmas.Bool.Decides.{nat_tests}
-use Rattle.session.specs.Sessions.{Framed, session_length, first_of, framed_within, session_messages}
+use Rattle.session.specs.Sessions.{Framed, session_length, first_of, framed_within, session_messages, told, login_accepted, opening}
 
 -- what follows from the length in front, by the messages behind the first
 abbrev pub by : (List ℕ → List Framed) → List ℕ → Option ℕ → List Framed
@@ -38,3 +39,25 @@ within_step (suc n) bytes h =
 pub session_step : (bytes : List ℕ) (o : Option ℕ) → o ≡ session_length bytes → session_messages bytes ≡ by session_messages bytes o
 unfolding session_messages
 session_step bytes o e = within_step (length bytes) bytes (omega arith) ∙ ap (by session_messages bytes) (sym e)
+
+-- the first message that is told is not one that is skipped
+pub told_first : (xs ms : List Framed) (m : Framed) → told xs ≡ m ∷ ms → (eqb m.letter 43 || eqb m.letter 72) ≡ false
+told_first [] ms m e = absurd (cc)
+told_first (x ∷ xs) ms m e =
+    ⊎_elim (λ t. told_first xs ms m (sym (cond-true _ _ _ t) ∙ e)) (λ f. let h : x ∷ xs ≡ m ∷ ms = sym (cond-false _ _ _ f) ∙ e in cc)
+    (cases_Bool (eqb x.letter 43 || eqb x.letter 72))
+
+opening_told : (ms : List Framed) → opening ms ≡ opening (told ms)
+unfolding opening
+opening_told [] = refl
+opening_told (m ∷ ms) =
+    ⊎_elim (λ e. cond-true _ _ _ e ∙ opening_told ms ∙ sym (ap opening (cond-true _ _ _ e))) (λ e. sym (ap opening (cond-false _ _ _ e)))
+    (cases_Bool (eqb m.letter 43 || eqb m.letter 72))
+
+pub opening_none : (ms : List Framed) → told ms ≡ [] → opening ms ≡ None
+unfolding opening
+opening_none ms e = opening_told ms ∙ ap opening e
+
+pub opening_on : (xs ms : List Framed) (m : Framed) → told xs ≡ m ∷ ms → opening xs ≡ cond (m.letter == 65) (login_accepted m.body ms) None
+unfolding opening
+opening_on xs ms m e = opening_told xs ∙ ap opening e ∙ cond-false _ _ _ (told_first xs ms m e)

@@ -1,13 +1,12 @@
 -- The messages of a session, and its opening.
 use Rattle.std.specs.Prelude.{◌≡◌, ℕ, zero, suc, ◌+◌, ◌-◌, cond, ◌||◌, List, [], ◌∷◌, length, take, drop, Some, None, Option, ◌==◌, slice_index}
-use Rattle.wire.specs.declared.session.Session.{Session}
+use Rattle.wire.specs.Names.{Session, session_of}
 use Rattle.session.specs.declared.messages.SessionMessage.{SessionMessage}
 use Rattle.session.specs.declared.messages.SessionMessages.{SessionMessages}
 use Rattle.session.specs.declared.messages.Opened.{Opened}
 use Rattle.wire.specs.Numbers.{most16}
 use Rattle.wire.specs.Frames.{front_length}
 use Rattle.session.specs.Fields.{number_of}
-use Rattle.wire.specs.Names.{session_of}
 
 -- a session message: its letter and the data behind it
 pub record Framed : Type 0 where
@@ -65,6 +64,16 @@ rest_of s = session_messages s.bytes.now
 abbrev pub Read : SessionMessages → Option SessionMessage → SessionMessages → Type 0
 Read s None t = (rest_of s ≡ []) × (t ≡ s)
 Read s (Some m) t = rest_of s ≡ framed m ∷ rest_of t
+
+-- without the debug (+) and heartbeat (H) messages in front
+abbrev pub told : List Framed → List Framed
+told [] = []
+told (m ∷ ms) = cond (m.letter == 43 || m.letter == 72) (told ms) (m ∷ ms)
+
+-- a step past those in front: the first other message that is left comes, or none is left
+abbrev pub Tells : SessionMessages → Option SessionMessage → SessionMessages → Type 0
+Tells s None t = told (rest_of s) ≡ []
+Tells s (Some m) t = told (rest_of s) ≡ framed m ∷ rest_of t
 
 abbrev pub opened : Opened → Opening
 opened o = record { session = o.session; number = o.number; follow = rest_of o.messages }

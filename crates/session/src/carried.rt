@@ -1,10 +1,11 @@
 // The messages of the feed that a session carries.
-ghost use Rattle.std.specs.Prelude.{◌≡◌, length};
+ghost use Rattle.std.specs.Prelude.{◌≡◌, ◌&&◌, ◌==◌, length};
 ghost use Rattle.session.specs.Carried.{message_sized, carried as carriedBy, still_carried, Carries};
 ghost use Rattle.session.specs.Sessions.{rest_of};
 ghost use Rattle.std.specs.Iterator.{at_most};
 
-use crate::messages::SessionMessages;
+use crate::messages::{SessionMessage, SessionMessages};
+use wire::{LEAST_MESSAGE, MOST_MESSAGE};
 
 // What a session carries after its opening: the data of its S messages in turn, up to a stray letter, or to data of
 // another size than a message has.
@@ -31,28 +32,21 @@ impl<'a> Iterator for Carried<'a> {
     ghost remaining = { λ s. at_most (length s.messages.bytes.now) };
 
     // Where nothing more is carried, it stays as it is.
+    #[tactic(auto, using(crate::proofs::Carrying::carried_none))]
     fn next(&mut self) -> Option<&'a [u8]> {
         let mut messages = self.messages;
-        while let Some(message) = messages.next() {
-            match message.letter as char {
-                '+' | 'H' => {}
-                'S' => {
-                    if !is_message(message.body) {
-                        return None;
-                    }
-                    self.messages = messages;
-                    return Some(message.body);
-                }
-                _ => return None,
-            }
+        let message = messages.next_told()?;
+        if !is_carried(message) {
+            return None;
         }
-        None
+        self.messages = messages;
+        Some(message.body)
     }
 }
 
-// Whether data has the size of a message: 5 to 80 bytes.
-fn is_message(bytes: &[u8]) -> bool
-    ensures { result ≡ message_sized bytes.now }
+// Whether a session message is S data of the size of a message: 5 to 80 bytes.
+fn is_carried(message: SessionMessage<'_>) -> bool
+    ensures { result ≡ (message.entry.letter == 83 && message_sized message.entry.body.now) }
 {
-    bytes.len() >= 5 && bytes.len() <= 80
+    message.letter == b'S' && (LEAST_MESSAGE..=MOST_MESSAGE).contains(&message.body.len())
 }

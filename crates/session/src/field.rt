@@ -1,34 +1,28 @@
 // Number fields: ten bytes of spaces and then digits.
-ghost use Rattle.std.specs.Prelude.{◌≡◌, ℕ, ◌≤◌, length, drop, IfOk, if◌then◌else◌, Some, Ok, Err, nat_le};
+ghost use Rattle.std.specs.Prelude.{◌≡◌, ◌==◌, not, position, IfOk, if◌then◌else◌, Some, Ok, Err, nat_le};
 ghost use Rattle.wire.specs.Numbers.{most32};
-ghost use Rattle.session.specs.Fields.{unpadded, one_more, digits_after, numeral as numeralOf, number_of, number_field};
+ghost use Rattle.session.specs.Fields.{one_more, digits_after, numeral as numeralOf, number_of, number_field};
 
 use codes::Refusal;
-
-const MOST: u32 = 2_147_483_647;
+use wire::MOST;
 
 // The bytes of a number field.
 pub type NumberField = [u8; 10];
 
 // The number that a field says: spaces, then one or more digits without a leading zero.
+#[tactic(auto, using(crate::proofs::Digits::number_behind, crate::proofs::Digits::all_spaces))]
 pub fn read_number(field: &[u8]) -> Option<u32>
     ensures { result ≡ number_of field.now }
 {
-    let from = padding(field);
+    let from = unpadded(field)?;
     numeral(&field[from..])
 }
 
-// How many spaces stand in front.
-fn padding(field: &[u8]) -> usize
-    ensures within { result ≤ length field.now }
-    ensures rest { drop result field.now ≡ unpadded field.now }
+// Where the spaces in front end.
+fn unpadded(field: &[u8]) -> Option<usize>
+    ensures { result ≡ position (λ b. not (b == 32)) field.now }
 {
-    for (i, b) in field.iter().enumerate() {
-        if *b != b' ' {
-            return i;
-        }
-    }
-    field.len()
+    field.iter().position(|b| *b != b' ')
 }
 
 fn numeral(digits: &[u8]) -> Option<u32>
@@ -45,25 +39,20 @@ fn numeral(digits: &[u8]) -> Option<u32>
 fn value(digits: &[u8]) -> Option<u32>
     ensures { result ≡ digits_after 0 digits.now }
 {
-    let mut value = 0;
-    for digit in digits {
-        value = with_digit(value, *digit)?;
-    }
-    Some(value)
+    digits
+        .iter()
+        .try_fold(0, |value, digit| with_digit(value, *digit))
 }
 
 // The value with one digit more, where that is a digit and the value stays within the limit.
 fn with_digit(value: u32, digit: u8) -> Option<u32>
     ensures { result ≡ one_more value digit }
 {
-    if digit < b'0' || digit > b'9' {
+    if !digit.is_ascii_digit() {
         return None;
     }
-    let more = u64::from(value) * 10 + u64::from(digit - b'0');
-    if more > u64::from(MOST) {
-        return None;
-    }
-    Some(more as u32)
+    let more = value.checked_mul(10)?.checked_add(u32::from(digit - b'0'))?;
+    (more <= MOST).then_some(more)
 }
 
 // The field that says a number, right-justified in spaces. It reads back as that number.
@@ -76,12 +65,13 @@ pub fn write_number(number: u32) -> Result<NumberField, Refusal>
     }
     let mut field = [b' '; 10];
     let mut left = number;
-    let mut at = 9;
-    while left >= 10 {
+    // By its index: behind `iter_mut().rev()` nothing is known of the array.
+    for at in (0..10).rev() {
         field[at] = b'0' + (left % 10) as u8;
         left /= 10;
-        at -= 1;
+        if left == 0 {
+            break;
+        }
     }
-    field[at] = b'0' + left as u8;
     Ok(field)
 }

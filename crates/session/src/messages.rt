@@ -1,13 +1,13 @@
 // Session messages, and the opening of a session.
-ghost use Rattle.std.specs.Prelude.{◌≡◌, length};
+ghost use Rattle.std.specs.Prelude.{◌≡◌, ◌<◌, ◌||◌, ◌==◌, length, IfSome};
 ghost use Rattle.std.specs.Option.{option_map};
-ghost use Rattle.session.specs.Sessions.{session_messages, rest_of, opening, opening_by, login_accepted, opened, Read};
+ghost use Rattle.session.specs.Sessions.{session_messages, rest_of, opening, opening_by, login_accepted, opened, Read, Tells};
 ghost use Rattle.std.specs.Iterator.{at_most};
 
 use crate::field::read_number;
 use wire::{Session, front_length};
 
-// A whole session message: its letter, and the data behind that.
+// A whole session message: its letter, which may be any byte, and the data behind that.
 #[derive(Clone, Copy)]
 pub struct SessionMessage<'a> {
     pub letter: u8,
@@ -26,6 +26,27 @@ impl<'a> SessionMessages<'a> {
     {
         SessionMessages { bytes }
     }
+
+    // The next message that is neither debug (+) nor a heartbeat (H). Not by `find`, since what is left behind it is
+    // promised too.
+    pub(crate) fn next_told(&mut self) -> Option<SessionMessage<'a>>
+        ensures told { Tells self.old result self.new }
+        ensures shorter { IfSome result (λ _. length self.new.bytes.now < length self.old.bytes.now) }
+    {
+        while let Some(message) = self.next() {
+            if !is_skipped(message.letter) {
+                return Some(message);
+            }
+        }
+        None
+    }
+}
+
+// Whether a letter is that of a debug message or a heartbeat.
+fn is_skipped(letter: u8) -> bool
+    ensures { result ≡ (letter == 43 || letter == 72) }
+{
+    matches!(letter, b'+' | b'H')
 }
 
 impl<'a> Iterator for SessionMessages<'a> {
@@ -38,9 +59,7 @@ impl<'a> Iterator for SessionMessages<'a> {
     ghost remaining = { λ s. at_most (length s.bytes.now) };
 
     fn next(&mut self) -> Option<SessionMessage<'a>> {
-        let Some(length) = front_length(self.bytes, 1, 32_767) else {
-            return None;
-        };
+        let length = front_length(self.bytes, 1, 32_767)?;
         let letter = self.bytes[2];
         let end = 2 + length;
         let body = &self.bytes[3..end];
@@ -59,18 +78,16 @@ pub struct Opened<'a> {
 
 impl<'a> Opened<'a> {
     // Session bytes that open, after debug and heartbeat messages, with a Login Accepted.
+    #[tactic(auto, using(std::proofs::lemmas::Bool::Decides::nat_tests, crate::proofs::Framing::opening_none, crate::proofs::Framing::opening_on))]
     pub fn read(bytes: &'a [u8]) -> Option<Opened<'a>>
         ensures { option_map opened result ≡ opening (session_messages bytes.now) }
     {
         let mut messages = SessionMessages::new(bytes);
-        while let Some(message) = messages.next() {
-            match message.letter as char {
-                '+' | 'H' => {}
-                'A' => return accepted(message.body, messages),
-                _ => return None,
-            }
+        let message = messages.next_told()?;
+        if message.letter != b'A' {
+            return None;
         }
-        None
+        accepted(message.body, messages)
     }
 }
 

@@ -1,1 +1,1 @@
-pub mod Sessions
+pub mod Numbered

@@ -1,6 +1,6 @@
 -- What a source of missing messages means, and what a fetch answers and writes.
 use Rattle.std.specs.Prelude.{ℕ, ◌+◌, ◌≤◌, cond, List, [], ◌∷◌, ◌++◌, length, drop, Some, None, Option, ◌==◌}
-use Rattle.wire.specs.declared.session.Session.{Session}
+use Rattle.wire.specs.Names.{Session}
 
 -- the name of a session, and which message is held under which number
 pub record Meaning : Type 0 where

@@ -1,7 +1,7 @@
 -- What two sources mean together.
 use Rattle.std.specs.Prelude.{ℕ, Bool, cond, List, Some, None, Option}
 use Rattle.std.specs.Str.{bytes_eq}
-use Rattle.wire.specs.declared.session.Session.{Session}
+use Rattle.wire.specs.Names.{Session}
 use Rattle.source.specs.Meanings.{Meaning}
 
 -- whether two sessions have the same name

@@ -32,13 +32,12 @@ pub fn same_session(a: Session, b: Session) -> bool
 impl<F: Source, S: Source> Source for Pair<F, S> {
     ghost meaning = { λ p. paired (F.Source.meaning p.first) (S.Source.meaning p.second) };
 
-    ghost agrees = { λ p. F.Source.agrees p.first × S.Source.agrees p.second };
-
     fn session(&self) -> Session {
         self.first.session()
     }
 
-    // The second is not asked where the first has the number, nor where the sessions differ.
+    // The second is not asked where the first has the number, nor where the sessions differ. Not by `or_else`, which says
+    // nothing of what its closure writes to `out`.
     fn fetch(&mut self, number: u32, out: &mut MessageBuffer) -> Option<usize> {
         if let Some(length) = self.first.fetch(number, out) {
             return Some(length);

@@ -1,28 +1,18 @@
 // Opening a recovery session, and asking any source for one number.
-ghost use Rattle.recovery.specs.Recoveries.{Agrees};
-ghost use Rattle.std.specs.Prelude.{IfOk};
-
 use recovery::Recovery;
 use source::Source;
 use std::test::Fail;
 
-pub fn open<'a>(bytes: &'a [u8]) -> Result<Recovery<'a>, Fail>
-    ensures { IfOk result Agrees }
-{
-    match Recovery::open(bytes) {
-        Ok(source) => Ok(source),
-        Err(_) => Err(Fail::new("refused")),
-    }
+pub fn open<'a>(bytes: &'a [u8]) -> Result<Recovery<'a>, Fail> {
+    Recovery::open(bytes).map_err(|_| Fail::new("refused"))
 }
 
-// The length of the message with a number, and its first byte; 0 and '.' where the number is not held.
-pub fn first<S: Source>(source: &mut S, number: u32) -> (usize, u8)
-    requires { S.Source.agrees source.old }
-    ensures { S.Source.agrees source.new }
-{
+// The length of the message with a number, and its first byte; none where the number is not held and nothing is written.
+pub fn first<S: Source>(source: &mut S, number: u32) -> Option<(usize, u8)> {
     let mut out = [b'.'; 80];
     match source.fetch(number, &mut out) {
-        Some(length) => (length, out[0]),
-        None => (0, out[0]),
+        Some(length) => Some((length, out[0])),
+        None if out == [b'.'; 80] => None,
+        None => Some((0, out[0])),
     }
 }

@@ -1,50 +1,47 @@
 // Recovery sessions: good, damaged and cut ones, and such as do not open.
 use crate::calls::{first, open};
+use codes::Refusal;
 use recovery::Recovery;
 use source::Source;
 use std::test::Fail;
 
-// The first bytes of four numbers in turn.
-fn four(bytes: &[u8], numbers: [u32; 4]) -> Result<[u8; 4], Fail> {
+// The first bytes of four numbers in turn, where they are held.
+fn four(bytes: &[u8], numbers: [u32; 4]) -> Result<[Option<u8>; 4], Fail> {
     let mut source = open(bytes)?;
-    let (_, a) = first(&mut source, numbers[0]);
-    let (_, b) = first(&mut source, numbers[1]);
-    let (_, c) = first(&mut source, numbers[2]);
-    let (_, d) = first(&mut source, numbers[3]);
-    Ok([a, b, c, d])
+    Ok(numbers.map(|number| first(&mut source, number).map(|(_, letter)| letter)))
 }
 
 #[test]
 fn what_is_held(rt: HostRuntime) -> Result<(), Fail> {
     // with debug and heartbeat in between, a stray letter, a second opening, data of 4 bytes, a cut message, a length of 0
-    let cases: [(&[u8], &[u8; 4]); 6] = [
+    let cases: [(&[u8], [Option<u8>; 4]); 6] = [
         (
             b"\0\x20A2010090300         7,         0\0\x06Sa   T\0\x03+hi\0\x06Sb   T\0\x01H\0\x06Sc   T",
-            b"abc.",
+            [Some(b'a'), Some(b'b'), Some(b'c'), None],
         ),
         (
             b"\0\x20A2010090300         7,         0\0\x06Sa   T\0\x02JA\0\x06Sb   T",
-            b"a...",
+            [Some(b'a'), None, None, None],
         ),
         (
             b"\0\x20A2010090300         7,         0\0\x06Sa   T\0\x20A2010090300         8,         0\0\x06Sb   T",
-            b"a...",
+            [Some(b'a'), None, None, None],
         ),
         (
             b"\0\x20A2010090300         7,         0\0\x06Sa   T\0\x05Sb  T\0\x06Sc   T",
-            b"a...",
+            [Some(b'a'), None, None, None],
         ),
         (
             b"\0\x20A2010090300         7,         0\0\x06Sa   T\0\x06Sb   T\0\x07Sc   T",
-            b"ab..",
+            [Some(b'a'), Some(b'b'), None, None],
         ),
         (
             b"\0\x20A2010090300         7,         0\0\x06Sa   T\0\0\0\x06Sb   T",
-            b"a...",
+            [Some(b'a'), None, None, None],
         ),
     ];
     for (bytes, expected) in cases {
-        assert!(rt; four(bytes, [7, 8, 9, 10])? == *expected);
+        assert!(rt; four(bytes, [7, 8, 9, 10])? == expected);
     }
     Ok(())
 }
@@ -55,9 +52,15 @@ fn in_any_order(rt: HostRuntime) -> Result<(), Fail> {
         b"\0\x20A2010090300         7,         0\0\x06Sa   T\0\x06Sb   T\0\x01H\0\x06Sc   T";
     // backwards, far away and back, and before the first
     let cases = [
-        ([9, 8, 7, 8], *b"cbab"),
-        ([9, 4_294_967_295, 8, 9], *b"c.bc"),
-        ([0, 6, 7, 10], *b"..a."),
+        (
+            [9, 8, 7, 8],
+            [Some(b'c'), Some(b'b'), Some(b'a'), Some(b'b')],
+        ),
+        (
+            [9, 4_294_967_295, 8, 9],
+            [Some(b'c'), None, Some(b'b'), Some(b'c')],
+        ),
+        ([0, 6, 7, 10], [None, None, Some(b'a'), None]),
     ];
     for (numbers, expected) in cases {
         assert!(rt; four(bytes, numbers)? == expected);
@@ -71,17 +74,17 @@ fn longest_message(rt: HostRuntime) -> Result<(), Fail> {
     let mut source = open(
         b"\0\x20A2010090300         7,         0\0\x51Sa234567890123456789012345678901234567890123456789012345678901234567890123456789z\0\x52Sb234567890123456789012345678901234567890123456789012345678901234567890123456789zz\0\x06Sc   T",
     )?;
-    assert!(rt; first(&mut source, 7) == (80, b'a'));
-    assert!(rt; first(&mut source, 8) == (0, b'.'));
-    assert!(rt; first(&mut source, 9) == (0, b'.'));
+    assert!(rt; first(&mut source, 7) == Some((80, b'a')));
+    assert!(rt; first(&mut source, 8) == None);
+    assert!(rt; first(&mut source, 9) == None);
     Ok(())
 }
 
 #[test]
 fn largest_number(rt: HostRuntime) -> Result<(), Fail> {
     let mut source = open(b"\0\x20A20100903002147483647,         0\0\x06Sa   T\0\x06Sb   T")?;
-    assert!(rt; first(&mut source, 2_147_483_647) == (5, b'a'));
-    assert!(rt; first(&mut source, 2_147_483_648) == (0, b'.'));
+    assert!(rt; first(&mut source, 2_147_483_647) == Some((5, b'a')));
+    assert!(rt; first(&mut source, 2_147_483_648) == None);
     Ok(())
 }
 
@@ -99,25 +102,26 @@ fn what_is_written(rt: HostRuntime) -> Result<(), Fail> {
     Ok(())
 }
 
-// The number of the refusal, or 0.
-fn refusal(bytes: &[u8]) -> u8 {
-    match Recovery::open(bytes) {
-        Ok(_) => 0,
-        Err(refusal) => refusal.number(),
-    }
-}
-
 #[test]
 fn refused(rt: HostRuntime) {
     // nothing, another letter first, a cut Login Accepted, the number 0; and the number 1, with nothing carried
-    let cases: [(&[u8], u8); 5] = [
-        (b"", 8),
-        (b"\0\x06Sa   T\0\x20A2010090300         7,         0", 8),
-        (b"\0\x20A2010090300         7,        ", 8),
-        (b"\0\x20A2010090300         0,         0\0\x06Sa   T", 8),
-        (b"\0\x01H\0\x20A2010090300         1,         0", 0),
+    let cases: [(&[u8], Option<Refusal>); 5] = [
+        (b"", Some(Refusal::NotOpened)),
+        (
+            b"\0\x06Sa   T\0\x20A2010090300         7,         0",
+            Some(Refusal::NotOpened),
+        ),
+        (
+            b"\0\x20A2010090300         7,        ",
+            Some(Refusal::NotOpened),
+        ),
+        (
+            b"\0\x20A2010090300         0,         0\0\x06Sa   T",
+            Some(Refusal::NotOpened),
+        ),
+        (b"\0\x01H\0\x20A2010090300         1,         0", None),
     ];
     for (bytes, expected) in cases {
-        assert!(rt; refusal(bytes) == expected);
+        assert!(rt; Recovery::open(bytes).err() == expected);
     }
 }

@@ -1,14 +1,12 @@
--- The laws of `found`, `placed`, `without` and `onward`, over any lawful order of keys.
-use Rattle.std.proofs.Common.{◌≡◌, ℕ, zero, suc, ◌+◌, ◌<◌, ◌≤◌, Bool, true, false, cond, ltb, List, [], ◌∷◌, ◌++◌, length, take, drop, is_some, Some, None, Ok, Err, Option, Ordering, Less, Equal, Greater, sym, refl, ap, ◌∙◌, subst, arith}
-use native.Mathlib.Nat.{min-le_right}
-use Rattle.std.specs.Cmp.{IsTotalOrder}
+-- The laws of `found`, `placed`, `without` and `onward`, over any total order of keys.
+use Rattle.std.proofs.Common.{◌≡◌, ℕ, zero, suc, ◌+◌, ◌<◌, ◌≤◌, Bool, true, false, cond, ltb, List, [], ◌∷◌, ◌++◌, length, take, drop, is_some, Some, None, Ok, Err, Option, Ordering, Less, Equal, Greater, sym, refl, ap, ◌∙◌, append-nil, subst, arith}
+use Rattle.std.specs.Cmp.{IsTotalOrder, alike_right, tied_itself}
 use Rattle.std.specs.Ordering.{is_lt, ordering_reverse}
-use Rattle.std.proofs.lemmas.List.{length-drop, length-take}
-use Rattle.std.proofs.lemmas.Bool.{and_from, and_parts, lt-ltb, ltb-true}
-use Rattle.table.specs.Rows.{Lawful, Stored, pick, found, placed, without, below, onward, above, ordered}
-use Rattle.table.specs.Tables.{entries, room, taken}
+use Rattle.std.proofs.lemmas.List.{drop_all, length-drop, take-take}
+use Rattle.std.proofs.lemmas.Bool.{and_from, and_parts, ltb-true}
+use Rattle.table.specs.Rows.{Laws, Stored, pick, found, placed, without, below, onward, above, ordered}
+use Rattle.table.specs.Tables.{taken}
 use Rattle.table.specs.declared.NotAdded.TheVariants.{Full, Present}
-use Rattle.table.specs.declared.Table.{Table}
 use Rattle.table.proofs.Seats.{above_at, below_length, is_less, is_none, without_here, without_none}
 
 module _ {X K : Type 0} (key : X → K) (order : K → K → Ordering) where
@@ -47,6 +45,14 @@ module _ {X K : Type 0} (key : X → K) (order : K → K → Ordering) where
   ordered_cut (suc i) (suc j) [] l o = o
   ordered_cut (suc i) (suc j) (x ∷ xs) l o = let p = ordered_parts x xs o in ordered_cons x (take i xs ++ drop j xs) (above_cut (key x) i j xs (omega arith) p.0) (ordered_cut i j xs (omega arith) p.1)
 
+  -- the first of what is in order
+  pub ordered_front : (i n : ℕ) (xs : List X) → i ≤ n → ordered key order (take n xs) ≡ true → ordered key order (take i xs) ≡ true
+  ordered_front i n xs l o =
+      let ys : List X = take n xs in
+      let none : drop (i + length ys) ys ≡ [] = drop_all (i + length ys) ys (omega arith) in
+      let all : take i ys ++ drop (i + length ys) ys ≡ take i xs = ap (λ (t : List X). take i ys ++ t) none ∙ append-nil (take i ys) ∙ take-take i n xs l in
+      ap (ordered key order) (sym all) ∙ ordered_cut i (i + length ys) ys (omega arith) o
+
   pub ordered_without : (k : K) (xs : List X) → ordered key order xs ≡ true → ordered key order (without key order k xs) ≡ true
   ordered_without k xs o = go (is_some (found key order k xs)) refl
     where
@@ -82,22 +88,19 @@ module _ {X K : Type 0} (key : X → K) (order : K → K → Ordering) where
   taken_ok n e xs u h = go (is_some (found key order (key e) xs)) (ltb (length xs) n) refl refl
     where
       go : (a b : Bool) → is_some (found key order (key e) xs) ≡ a → ltb (length xs) n ≡ b → (found key order (key e) xs ≡ None) × (length xs < n)
-      go true b p q = let s : Ok u ≡ Err Present = rw p at h in let z : ◌≡◌ {A = ℕ} 0 1 = cc in absurd (omega arith)
+      go true b p q = let s : Ok u ≡ Err Present = rw p at h in absurd cc
       go false true p q = (is_none (found key order (key e) xs) p, ltb-true (length xs) n q)
-      go false false p q = let s : Ok u ≡ Err Full = rw (p, q) at h in let z : ◌≡◌ {A = ℕ} 0 1 = cc in absurd (omega arith)
-
-  pub taken_free : (n : ℕ) (e : X) (xs : List X) → found key order (key e) xs ≡ None → length xs < n → taken key order n e xs ≡ Ok tt
-  taken_free n e xs f l = let s : ltb (length xs) n ≡ true = lt-ltb (length xs) n l in rw (f, s)
+      go false false p q = let s : Ok u ≡ Err Full = rw (p, q) at h in absurd cc
 
   pub found_stored : (q : K) (xs : List X) (x : X) → found key order q xs ≡ Some x → Stored x xs × (order (key x) q ≡ Equal)
   unfolding found
-  found_stored q [] x h = let z : ◌≡◌ {A = ℕ} 0 1 = cc in absurd (omega arith)
+  found_stored q [] x h = absurd cc
   found_stored q (y ∷ ys) x h = go (found_stored q ys x) (order (key y) q) refl
     where
       go : (found key order q ys ≡ Some x → Stored x ys × (order (key x) q ≡ Equal)) → (r : Ordering) → order (key y) q ≡ r → Stored x (y ∷ ys) × (order (key x) q ≡ Equal)
       go ih Less p = let t = ih (rw p at h) in ((suc t.0.0, omega (arith, t.0.1), t.0.2), t.1)
       go ih Equal p = let e : Some y ≡ Some x = rw p at h in let f : y ≡ x = cc in ((zero, omega arith, sym f), subst (λ w. order (key w) q ≡ Equal) f p)
-      go ih Greater p = let e : None ≡ Some x = rw p at h in let z : ◌≡◌ {A = ℕ} 0 1 = cc in absurd (omega arith)
+      go ih Greater p = let e : None ≡ Some x = rw p at h in absurd cc
 
   pub found_drop : (n : ℕ) (xs : List X) (q : K) → n ≤ below key order q xs → found key order q (drop n xs) ≡ found key order q xs
   unfolding found below
@@ -110,44 +113,17 @@ module _ {X K : Type 0} (key : X → K) (order : K → K → Ordering) where
       go ih Equal p = let s : suc n ≤ 0 = rw p at l in absurd (omega arith)
       go ih Greater p = let s : suc n ≤ 0 = rw p at l in absurd (omega arith)
 
-  module _ (laws : Lawful order) where
+  module _ (laws : IsTotalOrder order) where
     back : (a b : K) (o : Ordering) → order a b ≡ o → order b a ≡ ordering_reverse o
-    back a b o p = laws.turn a b ∙ ap ordering_reverse p
-
-    -- equal keys compare alike
-    pub alike : (a b c : K) → order a b ≡ Equal → order a c ≡ order b c
-    alike a b c p = go (order a c) (order b c) refl refl
-      where
-        go : (r s : Ordering) → order a c ≡ r → order b c ≡ s → r ≡ s
-        go Less Less h k = refl
-        go Equal Equal h k = refl
-        go Greater Greater h k = refl
-        go Less Equal h k = let f : Less ≡ Equal = sym h ∙ laws.equal a b c p k in let z : ◌≡◌ {A = ℕ} 0 1 = cc in absurd (omega arith)
-        go Less Greater h k = let f : Less ≡ Equal = sym (laws.less a c b h (back b c Greater k)) ∙ p in let z : ◌≡◌ {A = ℕ} 0 1 = cc in absurd (omega arith)
-        go Equal Less h k = let f : Less ≡ Equal = sym k ∙ laws.equal b a c (back a b Equal p) h in let z : ◌≡◌ {A = ℕ} 0 1 = cc in absurd (omega arith)
-        go Equal Greater h k = let f : Greater ≡ Equal = sym k ∙ laws.equal b a c (back a b Equal p) h in let z : ◌≡◌ {A = ℕ} 0 1 = cc in absurd (omega arith)
-        go Greater Less h k = let f : Less ≡ Equal = sym (laws.less b c a k (back a c Greater h)) ∙ back a b Equal p in let z : ◌≡◌ {A = ℕ} 0 1 = cc in absurd (omega arith)
-        go Greater Equal h k = let f : Greater ≡ Equal = sym h ∙ laws.equal a b c p k in let z : ◌≡◌ {A = ℕ} 0 1 = cc in absurd (omega arith)
-
-    -- and so on the other side
-    alike_back : (a b c : K) → order a b ≡ Equal → order c a ≡ order c b
-    alike_back a b c p = laws.turn a c ∙ (ap ordering_reverse (alike a b c p) ∙ sym (laws.turn b c))
-
-    pub same : (a : K) → order a a ≡ Equal
-    same a = go (order a a) refl
-      where
-        go : (o : Ordering) → order a a ≡ o → o ≡ Equal
-        go Less p = let h : Less ≡ Greater = sym p ∙ back a a Less p in let z : ◌≡◌ {A = ℕ} 0 1 = cc in absurd (omega arith)
-        go Equal p = refl
-        go Greater p = let h : Greater ≡ Less = sym p ∙ back a a Greater p in let z : ◌≡◌ {A = ℕ} 0 1 = cc in absurd (omega arith)
+    back a b o p = laws.antisymm b a ∙ ap ordering_reverse p
 
     above_less : (a b : K) (xs : List X) → order a b ≡ Less → above key order b xs ≡ true → above key order a xs ≡ true
     above_less a b [] p h = refl
-    above_less a b (x ∷ xs) p h = let t = above_parts b x xs h in above_cons a x xs (laws.less a b (key x) p t.0) (above_less a b xs p t.1)
+    above_less a b (x ∷ xs) p h = let t = above_parts b x xs h in above_cons a x xs (laws.trans a b (key x) p t.0) (above_less a b xs p t.1)
 
     above_equal : (a b : K) (xs : List X) → order a b ≡ Equal → above key order b xs ≡ true → above key order a xs ≡ true
     above_equal a b [] p h = refl
-    above_equal a b (x ∷ xs) p h = let t = above_parts b x xs h in above_cons a x xs (alike a b (key x) p ∙ t.0) (above_equal a b xs p t.1)
+    above_equal a b (x ∷ xs) p h = let t = above_parts b x xs h in above_cons a x xs (laws.congr a b (key x) p ∙ t.0) (above_equal a b xs p t.1)
 
     above_placed : (q : K) (e : X) (xs : List X) → order q (key e) ≡ Less → above key order q xs ≡ true → above key order q (placed key order e xs) ≡ true
     unfolding placed
@@ -185,14 +161,14 @@ module _ {X K : Type 0} (key : X → K) (order : K → K → Ordering) where
         s = (above_parts k x xs h).0
 
         go : (r : Ordering) → order (key x) q ≡ r → pick r (found key order q xs) (Some x) None ≡ None
-        go Less p = absurd (n (laws.less k (key x) q s p))
-        go Equal p = absurd (n (sym (alike_back (key x) q k p) ∙ s))
+        go Less p = absurd (n (laws.trans k (key x) q s p))
+        go Equal p = absurd (n (sym (alike_right laws (key x) q k p) ∙ s))
         go Greater p = refl
 
     pub found_alike : (a b : K) (xs : List X) → order a b ≡ Equal → found key order a xs ≡ found key order b xs
     unfolding found
     found_alike a b [] h = refl
-    found_alike a b (x ∷ xs) h = rw (alike_back a b (key x) h) (ap (λ (t : Option X). pick (order (key x) b) t (Some x) None) (found_alike a b xs h))
+    found_alike a b (x ∷ xs) h = rw (alike_right laws a b (key x) h) (ap (λ (t : Option X). pick (order (key x) b) t (Some x) None) (found_alike a b xs h))
 
     pub stored_found : (q : K) (xs : List X) (x : X) → ordered key order xs ≡ true → Stored x xs → order (key x) q ≡ Equal → found key order q xs ≡ Some x
     unfolding found
@@ -200,7 +176,7 @@ module _ {X K : Type 0} (key : X → K) (order : K → K → Ordering) where
     stored_found q (y ∷ ys) x o (zero, l, e) p = let s : order (key y) q ≡ Equal = rw e at p in rw (s, e)
     stored_found q (y ∷ ys) x o (suc i, l, e) p =
         let t = ordered_parts y ys o in
-        let s : order (key y) q ≡ Less = sym (alike_back (key x) q (key y) p) ∙ above_at key order (key y) ys t.0 i x (omega arith) e in
+        let s : order (key y) q ≡ Less = sym (alike_right laws (key x) q (key y) p) ∙ above_at key order (key y) ys t.0 i x (omega arith) e in
         rw s (stored_found q ys x t.1 (i, omega arith, e) p)
 
     pub found_placed : (e : X) (xs : List X) (q : K) → order (key e) q ≡ Equal → found key order q (placed key order e xs) ≡ Some e
@@ -209,7 +185,7 @@ module _ {X K : Type 0} (key : X → K) (order : K → K → Ordering) where
     found_placed e (x ∷ xs) q h = go (found_placed e xs q h) (order (key x) (key e)) refl
       where
         go : found key order q (placed key order e xs) ≡ Some e → (r : Ordering) → order (key x) (key e) ≡ r → found key order q (pick r (x ∷ placed key order e xs) (e ∷ xs) (e ∷ x ∷ xs)) ≡ Some e
-        go ih Less p = let l : order (key x) q ≡ Less = sym (alike_back (key e) q (key x) h) ∙ p in rw l ih
+        go ih Less p = let l : order (key x) q ≡ Less = sym (alike_right laws (key e) q (key x) h) ∙ p in rw l ih
         go ih Equal p = rw h
         go ih Greater p = rw h
 
@@ -232,12 +208,12 @@ module _ {X K : Type 0} (key : X → K) (order : K → K → Ordering) where
         over p Less s = refl
         over p Equal s = absurd (n s)
         over p Greater s =
-            let xq : order (key x) q ≡ Greater = back q (key x) Less (laws.less q (key e) (key x) (back (key e) q Greater s) (back (key x) (key e) Greater p)) in
+            let xq : order (key x) q ≡ Greater = back q (key x) Less (laws.trans q (key e) (key x) (back (key e) q Greater s) (back (key x) (key e) Greater p)) in
             rw xq
 
         go : found key order q (placed key order e xs) ≡ found key order q xs → (r : Ordering) → order (key x) (key e) ≡ r → found key order q (pick r (x ∷ placed key order e xs) (e ∷ xs) (e ∷ x ∷ xs)) ≡ found key order q (x ∷ xs)
         go ih Less p = ap (λ (t : Option X). pick (order (key x) q) t (Some x) None) ih
-        go ih Equal p = rw (alike (key x) (key e) q p) (at (order (key e) q) refl)
+        go ih Equal p = rw (laws.congr (key x) (key e) q p) (at (order (key e) q) refl)
         go ih Greater p = over p (order (key e) q) refl
 
     found_without_same : (k : K) (xs : List X) → ordered key order xs ≡ true → found key order k (without key order k xs) ≡ None
@@ -250,7 +226,7 @@ module _ {X K : Type 0} (key : X → K) (order : K → K → Ordering) where
 
         go : found key order k (without key order k xs) ≡ None → (r : Ordering) → order (key x) k ≡ r → found key order k (pick r (x ∷ without key order k xs) xs (x ∷ xs)) ≡ None
         go ih Less p = rw p ih
-        go ih Equal p = above_none (key x) k xs t.0 (λ s. let f : Less ≡ Equal = sym s ∙ p in let z : ◌≡◌ {A = ℕ} 0 1 = cc in omega arith)
+        go ih Equal p = above_none (key x) k xs t.0 (λ s. let f : Less ≡ Equal = sym s ∙ p in cc)
         go ih Greater p = rw p
 
     pub found_without : (k : K) (xs : List X) (q : K) → ordered key order xs ≡ true → order k q ≡ Equal → found key order q (without key order k xs) ≡ None
@@ -267,11 +243,11 @@ module _ {X K : Type 0} (key : X → K) (order : K → K → Ordering) where
         at : (s : Ordering) → order (key x) q ≡ s → order k q ≡ s → found key order q xs ≡ pick s (found key order q xs) (Some x) None
         at Less p u = refl
         at Equal p u = absurd (n u)
-        at Greater p u = above_none (key x) q xs t.0 (λ s. let f : Less ≡ Greater = sym s ∙ p in let z : ◌≡◌ {A = ℕ} 0 1 = cc in omega arith)
+        at Greater p u = above_none (key x) q xs t.0 (λ s. let f : Less ≡ Greater = sym s ∙ p in cc)
 
         go : found key order q (without key order k xs) ≡ found key order q xs → (s : Ordering) → order (key x) k ≡ s → found key order q (pick s (x ∷ without key order k xs) xs (x ∷ xs)) ≡ found key order q (x ∷ xs)
         go ih Less p = ap (λ (w : Option X). pick (order (key x) q) w (Some x) None) ih
-        go ih Equal p = at (order (key x) q) refl (sym (alike (key x) k q p))
+        go ih Equal p = at (order (key x) q) refl (sym (laws.congr (key x) k q p))
         go ih Greater p = refl
 
     pub found_dropped : (n : ℕ) (xs : List X) (q : K) → ordered key order xs ≡ true → below key order q xs < n → found key order q (drop n xs) ≡ None
@@ -285,8 +261,8 @@ module _ {X K : Type 0} (key : X → K) (order : K → K → Ordering) where
 
         go : (below key order q xs < n → found key order q (drop n xs) ≡ None) → (r : Ordering) → order (key x) q ≡ r → found key order q (drop n xs) ≡ None
         go ih Less p = let s : suc (below key order q xs) < suc n = rw p at l in ih (omega arith)
-        go ih Equal p = above_none (key x) q (drop n xs) (above_drop (key x) n xs t.0) (λ s. let f : Less ≡ Equal = sym s ∙ p in let z : ◌≡◌ {A = ℕ} 0 1 = cc in omega arith)
-        go ih Greater p = above_none (key x) q (drop n xs) (above_drop (key x) n xs t.0) (λ s. let f : Less ≡ Greater = sym s ∙ p in let z : ◌≡◌ {A = ℕ} 0 1 = cc in omega arith)
+        go ih Equal p = above_none (key x) q (drop n xs) (above_drop (key x) n xs t.0) (λ s. let f : Less ≡ Equal = sym s ∙ p in cc)
+        go ih Greater p = above_none (key x) q (drop n xs) (above_drop (key x) n xs t.0) (λ s. let f : Less ≡ Greater = sym s ∙ p in cc)
 
     pub found_below : (k : K) (xs : List X) (q : K) → order q k ≡ Less → found key order q (onward key order k xs) ≡ None
     unfolding found below
@@ -294,14 +270,14 @@ module _ {X K : Type 0} (key : X → K) (order : K → K → Ordering) where
     found_below k (x ∷ xs) q h = go (found_below k xs q h) (order (key x) k) refl
       where
         past : (r : Ordering) → order (key x) q ≡ r → (order (key x) k ≡ Less → ⊥) → pick r (found key order q xs) (Some x) None ≡ None
-        past Less p n = absurd (n (laws.less (key x) q k p h))
-        past Equal p n = absurd (n (alike (key x) q k p ∙ h))
+        past Less p n = absurd (n (laws.trans (key x) q k p h))
+        past Equal p n = absurd (n (laws.congr (key x) q k p ∙ h))
         past Greater p n = refl
 
         go : found key order q (onward key order k xs) ≡ None → (r : Ordering) → order (key x) k ≡ r → found key order q (drop (cond (is_lt r) (suc (below key order k xs)) 0) (x ∷ xs)) ≡ None
         go ih Less p = ih
-        go ih Equal p = past (order (key x) q) refl (λ s. let f : Less ≡ Equal = sym s ∙ p in let z : ◌≡◌ {A = ℕ} 0 1 = cc in omega arith)
-        go ih Greater p = past (order (key x) q) refl (λ s. let f : Less ≡ Greater = sym s ∙ p in let z : ◌≡◌ {A = ℕ} 0 1 = cc in omega arith)
+        go ih Equal p = past (order (key x) q) refl (λ s. let f : Less ≡ Equal = sym s ∙ p in cc)
+        go ih Greater p = past (order (key x) q) refl (λ s. let f : Less ≡ Greater = sym s ∙ p in cc)
 
     pub found_onward : (k : K) (xs : List X) (q : K) → (order q k ≡ Less → ⊥) → found key order q (onward key order k xs) ≡ found key order q xs
     unfolding found below
@@ -310,8 +286,8 @@ module _ {X K : Type 0} (key : X → K) (order : K → K → Ordering) where
       where
         over : order (key x) k ≡ Less → (r : Ordering) → order (key x) q ≡ r → r ≡ Less
         over p Less s = refl
-        over p Equal s = absurd (n (sym (alike (key x) q k s) ∙ p))
-        over p Greater s = absurd (n (laws.less q (key x) k (back (key x) q Greater s) p))
+        over p Equal s = absurd (n (sym (laws.congr (key x) q k s) ∙ p))
+        over p Greater s = absurd (n (laws.trans q (key x) k (back (key x) q Greater s) p))
 
         go : found key order q (onward key order k xs) ≡ found key order q xs → (r : Ordering) → order (key x) k ≡ r → found key order q (drop (cond (is_lt r) (suc (below key order k xs)) 0) (x ∷ xs)) ≡ found key order q (x ∷ xs)
         go ih Less p = let s : order (key x) q ≡ Less = over p (order (key x) q) refl in rw s ih
@@ -320,18 +296,18 @@ module _ {X K : Type 0} (key : X → K) (order : K → K → Ordering) where
 
     pub without_placed : (e : X) (xs : List X) → found key order (key e) xs ≡ None → without key order (key e) (placed key order e xs) ≡ xs
     unfolding found placed without
-    without_placed e [] h = rw (same (key e))
+    without_placed e [] h = rw (tied_itself laws (key e))
     without_placed e (x ∷ xs) h = go (without_placed e xs) (order (key x) (key e)) refl
       where
         go : (found key order (key e) xs ≡ None → without key order (key e) (placed key order e xs) ≡ xs) → (r : Ordering) → order (key x) (key e) ≡ r → without key order (key e) (pick r (x ∷ placed key order e xs) (e ∷ xs) (e ∷ x ∷ xs)) ≡ x ∷ xs
         go ih Less p = rw p (ap (λ (t : List X). x ∷ t) (ih (rw p at h)))
-        go ih Equal p = let n : Some x ≡ None = rw p at h in let z : ◌≡◌ {A = ℕ} 0 1 = cc in absurd (omega arith)
-        go ih Greater p = rw (same (key e))
+        go ih Equal p = let n : Some x ≡ None = rw p at h in absurd cc
+        go ih Greater p = rw (tied_itself laws (key e))
 
     -- the first of ordered rows is found, and past it nothing but what is found in the rest
     found_first : (x : X) (xs : List X) → found key order (key x) (x ∷ xs) ≡ Some x
     unfolding found
-    found_first x xs = rw (same (key x))
+    found_first x xs = rw (tied_itself laws (key x))
 
     first_same : (x y : X) (xs ys : List X) → ((q : K) → found key order q (x ∷ xs) ≡ found key order q (y ∷ ys)) → x ≡ y
     unfolding found
@@ -345,9 +321,9 @@ module _ {X K : Type 0} (key : X → K) (order : K → K → Ordering) where
             let t : order (key x) (key y) ≡ Greater = back (key y) (key x) Less p in
             let n : found key order (key y) (x ∷ xs) ≡ Some y = f (key y) ∙ found_first y ys in
             let m : None ≡ Some y = rw t at n in
-            let z : ◌≡◌ {A = ℕ} 0 1 = cc in absurd (omega arith)
+            absurd cc
         go Equal p = let e : Some x ≡ Some y = rw p at at in cc
-        go Greater p = let e : Some x ≡ None = rw p at at in let z : ◌≡◌ {A = ℕ} 0 1 = cc in absurd (omega arith)
+        go Greater p = let e : Some x ≡ None = rw p at at in absurd cc
 
     rest_same : (x : X) (xs ys : List X) → above key order (key x) xs ≡ true → above key order (key x) ys ≡ true → ((q : K) → found key order q (x ∷ xs) ≡ found key order q (x ∷ ys)) → (q : K) → found key order q xs ≡ found key order q ys
     unfolding found
@@ -358,14 +334,14 @@ module _ {X K : Type 0} (key : X → K) (order : K → K → Ordering) where
 
         go : (r : Ordering) → order (key x) q ≡ r → found key order q xs ≡ found key order q ys
         go Less p = rw p at (f q)
-        go Equal p = none (λ s. let e : Less ≡ Equal = sym s ∙ p in let z : ◌≡◌ {A = ℕ} 0 1 = cc in omega arith)
-        go Greater p = none (λ s. let e : Less ≡ Greater = sym s ∙ p in let z : ◌≡◌ {A = ℕ} 0 1 = cc in omega arith)
+        go Equal p = none (λ s. let e : Less ≡ Equal = sym s ∙ p in cc)
+        go Greater p = none (λ s. let e : Less ≡ Greater = sym s ∙ p in cc)
 
     pub same_found : (xs ys : List X) → ordered key order xs ≡ true → ordered key order ys ≡ true → ((q : K) → found key order q xs ≡ found key order q ys) → xs ≡ ys
     unfolding found
     same_found [] [] o u f = refl
-    same_found [] (y ∷ ys) o u f = let e : None ≡ Some y = f (key y) ∙ found_first y ys in let z : ◌≡◌ {A = ℕ} 0 1 = cc in absurd (omega arith)
-    same_found (x ∷ xs) [] o u f = let e : Some x ≡ None = sym (found_first x xs) ∙ f (key x) in let z : ◌≡◌ {A = ℕ} 0 1 = cc in absurd (omega arith)
+    same_found [] (y ∷ ys) o u f = let e : None ≡ Some y = f (key y) ∙ found_first y ys in absurd cc
+    same_found (x ∷ xs) [] o u f = let e : Some x ≡ None = sym (found_first x xs) ∙ f (key x) in absurd cc
     same_found (x ∷ xs) (y ∷ ys) o u f =
         let e : x ≡ y = first_same x y xs ys f in
         let t = ordered_parts x xs o in
@@ -374,10 +350,26 @@ module _ {X K : Type 0} (key : X → K) (order : K → K → Ordering) where
         let a : above key order (key x) ys ≡ true = ap (λ v. above key order (key v) ys) e ∙ w.0 in
         ap (λ (s : List X). x ∷ s) (same_found xs ys t.1 w.1 (rest_same x xs ys t.0 a g)) ∙ ap (λ v. v ∷ ys) e
 
--- there are no more entries than slots
-pub entries_fit : {X B : Type 0} (t : Table X B) → length (entries t) ≤ room t
-entries_fit t = simp length-take (min-le_right t.used (room t))
-
--- an order of the standard library is lawful
-pub total_lawful : {K : Type 0} {R : K → K → Ordering} (o : IsTotalOrder R) → Lawful R
-total_lawful o = record { turn = λ a b. o.antisymm b a; less = o.trans; equal = λ a b c p q. o.congr a b c p ∙ q }
+    pub all_laws : Laws key order
+    all_laws =
+        record {
+          found_stored = found_stored;
+          stored_found = stored_found;
+          found_alike = found_alike;
+          found_placed = found_placed;
+          found_placed_other = found_placed_other;
+          found_without = found_without;
+          found_without_other = found_without_other;
+          found_dropped = found_dropped;
+          found_drop = found_drop;
+          found_below = found_below;
+          found_onward = found_onward;
+          ordered_placed = ordered_placed;
+          ordered_without = ordered_without;
+          ordered_drop = ordered_drop;
+          same_found = same_found;
+          without_placed = without_placed;
+          length_placed = length_placed;
+          length_without = length_without;
+          length_onward = length_onward;
+        }

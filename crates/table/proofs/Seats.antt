@@ -4,16 +4,16 @@ use Rattle.std.specs.Ordering.{is_lt}
 use Rattle.std.specs.List.{insert, remove}
 use Rattle.std.proofs.lemmas.List.{get_or_default}
 use Rattle.std.proofs.lemmas.Bool.{and_parts, cases_lt}
-use Rattle.table.specs.Rows.{Lawful, pick, found, placed, without, below, above, ordered}
+use Rattle.table.specs.Rows.{pick, found, placed, without, below, above, ordered}
 
 pub is_less : (o : Ordering) → is_lt o ≡ true → o ≡ Less
 is_less Less h = refl
-is_less Equal h = let z : ◌≡◌ {A = ℕ} 0 1 = cc in absurd (omega arith)
-is_less Greater h = let z : ◌≡◌ {A = ℕ} 0 1 = cc in absurd (omega arith)
+is_less Equal h = absurd cc
+is_less Greater h = absurd cc
 
 pub is_none : {X : Type 0} (r : Option X) → is_some r ≡ false → r ≡ None
 is_none None h = refl
-is_none (Some x) h = let z : ◌≡◌ {A = ℕ} 0 1 = cc in absurd (omega arith)
+is_none (Some x) h = absurd cc
 
 module _ {X K : Type 0} (key : X → K) (order : K → K → Ordering) where
   pub above_at : (q : K) (xs : List X) → above key order q xs ≡ true → (i : ℕ) (x : X) → i < length xs → x ≡ get_or xs i x → order q (key x) ≡ Less
@@ -30,32 +30,19 @@ module _ {X K : Type 0} (key : X → K) (order : K → K → Ordering) where
       go ih true = omega arith
       go ih false = omega arith
 
-  -- a row that is not less than q stands past those that are
-  pub below_most : (q : K) (xs : List X) (i : ℕ) (x : X) → i < length xs → x ≡ get_or xs i x → (order (key x) q ≡ Less → ⊥) → below key order q xs ≤ i
+  -- the place of q: each row before it is less, and the one there is not
+  pub below_place : (q : K) (xs : List X) (i : ℕ) → i ≤ length xs → ((j : ℕ) (d : X) → j < i → is_lt (order (key (get_or xs j d)) q) ≡ true) → ((d : X) → i < length xs → is_lt (order (key (get_or xs i d)) q) ≡ false) → i ≡ below key order q xs
   unfolding below
-  below_most q [] i x l e n = absurd (omega arith)
-  below_most q (y ∷ ys) zero x l e n = go (order (key y) q) refl
-    where
-      go : (o : Ordering) → order (key y) q ≡ o → cond (is_lt o) (suc (below key order q ys)) 0 ≤ zero
-      go Less p = absurd (n (ap (λ w. order (key w) q) e ∙ p))
-      go Equal p = omega arith
-      go Greater p = omega arith
-  below_most q (y ∷ ys) (suc i) x l e n = go (below_most q ys i x (omega arith) e n) (is_lt (order (key y) q))
-    where
-      go : below key order q ys ≤ i → (b : Bool) → cond b (suc (below key order q ys)) 0 ≤ suc i
-      go ih true = omega arith
-      go ih false = omega arith
+  below_place q [] i l f n = omega arith
+  below_place q (x ∷ xs) zero l f n = rw (n x (omega arith)) refl
+  below_place q (x ∷ xs) (suc i) l f n = rw (f 0 x (omega arith)) (ap suc (below_place q xs i (omega arith) (λ j d m. f (suc j) d (omega arith)) (λ d m. n d (omega arith))))
 
-  -- in order, a row that is less than q stands among those counted
-  pub below_least : Lawful order → (q : K) (xs : List X) → ordered key order xs ≡ true → (i : ℕ) (x : X) → i < length xs → x ≡ get_or xs i x → order (key x) q ≡ Less → i < below key order q xs
-  unfolding below
-  below_least laws q [] o i x l e p = absurd (omega arith)
-  below_least laws q (y ∷ ys) o zero x l e p = let s : order (key y) q ≡ Less = rw e at p in rw s (omega arith)
-  below_least laws q (y ∷ ys) o (suc i) x l e p =
-      let both = and_parts (above key order (key y) ys) (ordered key order ys) o in
-      let s : order (key y) q ≡ Less = laws.less (key y) (key x) q (above_at (key y) ys both.0 i x (omega arith) e) p in
-      let ih = below_least laws q ys both.1 i x (omega arith) e p in
-      rw s (omega arith)
+  -- in order, each row is less than those behind it
+  pub rising : (xs : List X) → ordered key order xs ≡ true → (i j : ℕ) (d : X) → i < j → j < length xs → order (key (get_or xs i d)) (key (get_or xs j d)) ≡ Less
+  rising [] o i j d h l = absurd (omega arith)
+  rising (x ∷ xs) o i zero d h l = absurd (omega arith)
+  rising (x ∷ xs) o zero (suc j) d h l = above_at (key x) xs (and_parts (above key order (key x) xs) (ordered key order xs) o).0 j (get_or xs j d) (omega arith) (get_or_default xs j d (get_or xs j d) (omega arith))
+  rising (x ∷ xs) o (suc i) (suc j) d h l = rising xs (and_parts (above key order (key x) xs) (ordered key order xs) o).1 i j d (omega arith) (omega arith)
 
   -- what is found, by the row that stands at the place of q
   pub found_at : (q : K) (xs : List X) (x : X) → below key order q xs < length xs → x ≡ get_or xs (below key order q xs) x → found key order q xs ≡ pick (order (key x) q) None (Some x) None
@@ -87,7 +74,7 @@ module _ {X K : Type 0} (key : X → K) (order : K → K → Ordering) where
     where
       go : (below key order q xs < length xs) ⊎ (length xs ≤ below key order q xs) → below key order q xs < length xs
       go (inl l) = l
-      go (inr l) = let n : false ≡ true = sym (ap is_some (found_past q xs l)) ∙ h in let z : ◌≡◌ {A = ℕ} 0 1 = cc in absurd (omega arith)
+      go (inr l) = let n : false ≡ true = sym (ap is_some (found_past q xs l)) ∙ h in absurd cc
 
   pub found_here : (q : K) (xs : List X) (d : X) → is_some (found key order q xs) ≡ true → found key order q xs ≡ Some (get_or xs (below key order q xs) d)
   found_here q xs d h = go (order (key x) q) refl
@@ -102,19 +89,19 @@ module _ {X K : Type 0} (key : X → K) (order : K → K → Ordering) where
       f = found_at q xs x l (get_or_default xs (below key order q xs) d x l)
 
       go : (o : Ordering) → order (key x) q ≡ o → found key order q xs ≡ Some x
-      go Less p = let n : None ≡ found key order q xs = sym (rw p at f) in let m : false ≡ true = ap is_some n ∙ h in let z : ◌≡◌ {A = ℕ} 0 1 = cc in absurd (omega arith)
+      go Less p = let n : None ≡ found key order q xs = sym (rw p at f) in let m : false ≡ true = ap is_some n ∙ h in absurd cc
       go Equal p = rw p at f
-      go Greater p = let n : None ≡ found key order q xs = sym (rw p at f) in let m : false ≡ true = ap is_some n ∙ h in let z : ◌≡◌ {A = ℕ} 0 1 = cc in absurd (omega arith)
+      go Greater p = let n : None ≡ found key order q xs = sym (rw p at f) in let m : false ≡ true = ap is_some n ∙ h in absurd cc
 
   pub without_here : (q : K) (xs : List X) → is_some (found key order q xs) ≡ true → without key order q xs ≡ remove xs (below key order q xs)
   unfolding found without below
-  without_here q [] h = let z : ◌≡◌ {A = ℕ} 0 1 = cc in absurd (omega arith)
+  without_here q [] h = absurd cc
   without_here q (x ∷ xs) h = go (without_here q xs) (order (key x) q) refl
     where
       go : (is_some (found key order q xs) ≡ true → without key order q xs ≡ remove xs (below key order q xs)) → (o : Ordering) → order (key x) q ≡ o → without key order q (x ∷ xs) ≡ remove (x ∷ xs) (below key order q (x ∷ xs))
       go ih Less p = rw p (ap (λ (t : List X). x ∷ t) (ih (rw p at h)))
       go ih Equal p = rw p
-      go ih Greater p = let n : false ≡ true = rw p at h in let z : ◌≡◌ {A = ℕ} 0 1 = cc in absurd (omega arith)
+      go ih Greater p = let n : false ≡ true = rw p at h in absurd cc
 
   pub without_none : (q : K) (xs : List X) → found key order q xs ≡ None → without key order q xs ≡ xs
   unfolding found without
@@ -123,18 +110,18 @@ module _ {X K : Type 0} (key : X → K) (order : K → K → Ordering) where
     where
       go : (found key order q xs ≡ None → without key order q xs ≡ xs) → (o : Ordering) → order (key x) q ≡ o → without key order q (x ∷ xs) ≡ x ∷ xs
       go ih Less p = rw p (ap (λ (t : List X). x ∷ t) (ih (rw p at h)))
-      go ih Equal p = let n : Some x ≡ None = rw p at h in let z : ◌≡◌ {A = ℕ} 0 1 = cc in absurd (omega arith)
+      go ih Equal p = let n : Some x ≡ None = rw p at h in absurd cc
       go ih Greater p = rw p
 
   pub placed_here : (e : X) (xs : List X) → is_some (found key order (key e) xs) ≡ true → placed key order e xs ≡ set xs (below key order (key e) xs) e
   unfolding found placed below
-  placed_here e [] h = let z : ◌≡◌ {A = ℕ} 0 1 = cc in absurd (omega arith)
+  placed_here e [] h = absurd cc
   placed_here e (x ∷ xs) h = go (placed_here e xs) (order (key x) (key e)) refl
     where
       go : (is_some (found key order (key e) xs) ≡ true → placed key order e xs ≡ set xs (below key order (key e) xs) e) → (o : Ordering) → order (key x) (key e) ≡ o → placed key order e (x ∷ xs) ≡ set (x ∷ xs) (below key order (key e) (x ∷ xs)) e
       go ih Less p = rw p (ap (λ (t : List X). x ∷ t) (ih (rw p at h)))
       go ih Equal p = rw p
-      go ih Greater p = let n : false ≡ true = rw p at h in let z : ◌≡◌ {A = ℕ} 0 1 = cc in absurd (omega arith)
+      go ih Greater p = let n : false ≡ true = rw p at h in absurd cc
 
   pub placed_new : (e : X) (xs : List X) → found key order (key e) xs ≡ None → placed key order e xs ≡ insert xs (below key order (key e) xs) e
   unfolding found placed below
@@ -143,5 +130,5 @@ module _ {X K : Type 0} (key : X → K) (order : K → K → Ordering) where
     where
       go : (found key order (key e) xs ≡ None → placed key order e xs ≡ insert xs (below key order (key e) xs) e) → (o : Ordering) → order (key x) (key e) ≡ o → placed key order e (x ∷ xs) ≡ insert (x ∷ xs) (below key order (key e) (x ∷ xs)) e
       go ih Less p = rw p (ap (λ (t : List X). x ∷ t) (ih (rw p at h)))
-      go ih Equal p = let n : Some x ≡ None = rw p at h in let z : ◌≡◌ {A = ℕ} 0 1 = cc in absurd (omega arith)
+      go ih Equal p = let n : Some x ≡ None = rw p at h in absurd cc
       go ih Greater p = rw p

@@ -8,22 +8,23 @@ use Rattle.table.specs.declared.NotAdded.TheVariants.{Full, Present}
 use Rattle.table.specs.declared.Table.{Table}
 
 -- what all slots hold
-abbrev pub all_slots : {X B : Type 0} → Table X B → List X
+abbrev pub all_slots : {X B K : Type 0} {r : _} {o : _} {e : _} {p : _} → Table X B K r o e p → List X
 all_slots t = t.slots.now
 
 -- the entries, ascending by key
-abbrev pub entries : {X B : Type 0} → Table X B → List X
+abbrev pub entries : {X B K : Type 0} {r : _} {o : _} {e : _} {p : _} → Table X B K r o e p → List X
 entries t = take t.used (all_slots t)
 
 -- how many slots were lent
-abbrev pub room : {X B : Type 0} → Table X B → ℕ
+abbrev pub room : {X B K : Type 0} {r : _} {o : _} {e : _} {p : _} → Table X B K r o e p → ℕ
 room t = length (all_slots t)
 
-module _ {X K : Type 0} (key : X → K) (order : K → K → Ordering) where
-  -- the table is in order
-  abbrev pub Kept : {B : Type 0} → Table X B → Type 0
-  Kept t = (t.used ≤ room t) × (ordered key order (entries t) ≡ true)
+-- what a call leaves: the entries xs, over as many slots as before
+pub record Leaves {X B K : Type 0} {r : _} {o : _} {e : _} {p : _} (old new : Table X B K r o e p) (xs : List X) : Type 0 where
+  pub entries : entries new ≡ xs
+  pub room : room new ≡ room old
 
+module _ {X K : Type 0} (key : X → K) (order : K → K → Ordering) where
   -- whether a table of n slots with the entries xs takes e
   abbrev pub taken : ℕ → X → List X → Result (Unit {0}) NotAdded
   taken n e xs = cond (is_some (found key order (key e) xs)) (Err Present) (cond (nat_lt (length xs) n) (Ok tt) (Err Full))

@@ -1,37 +1,24 @@
 //! A table of rows in the order of their keys, over slots that its maker lends.
 #![tactic(auto)]
 
-ghost use Rattle.std.specs.Prelude.{◌≡◌, ◌+◌, ◌-◌, ◌<◌, ◌≤◌, true, false, [], ◌++◌, length, take, drop, is_some, is_ok, if◌then◌else◌, slice_set};
-ghost use Rattle.std.specs.declared.cmp.Ordering.{Ordering as Answer};
-ghost use Rattle.std.proofs.Math.Seq.{paste};
+ghost use Rattle.std.specs.Prelude.{◌≡◌, ◌+◌, ◌<◌, ◌≤◌, true, false, [], ◌++◌, length, take, drop, is_some, is_ok, if◌then◌else◌, slice_set};
 ghost use Rattle.std.specs.List.{insert};
-ghost use Rattle.table.specs.Rows.{Lawful, Laws, found, placed, without, below, onward, ordered};
-ghost use Rattle.table.specs.Tables.{all_slots, entries, room, Kept, Seat, taken};
+ghost use Rattle.table.specs.Rows.{Laws, found, placed, without, below, onward, ordered};
 
-use std::cmp::Ordering;
-
-/// A row that a table holds in the order of a key. `By` names the order, so that one row can stand in tables of several orders.
+/// A row that a table holds in the order of a key. `By` names the key, so that one row can stand in tables of several orders.
 pub trait Row<By>: Copy {
-    type Key: Copy;
+    type Key: Copy + Ord;
 
-    // The key of a row, how two keys compare, and that the comparison is lawful.
+    // The key of a row; the order of the rows is that of their keys.
     ghost key: { Self → Self.Key };
-
-    ghost order: { Self.Key → Self.Key → Answer };
 
     /// The key of this row.
     fn key_of(&self) -> Self::Key
         ensures { result ≡ key self.now };
-
-    /// How two keys compare.
-    fn compare(a: &Self::Key, b: &Self::Key) -> Ordering
-        ensures { result ≡ order a.now b.now };
-
-    ghost lawful: { Lawful order };
 }
 
 /// Why a row was not added.
-#[derive(Clone, Copy)]
+#[derive(Clone, Copy, PartialEq, Eq)]
 pub enum NotAdded {
     /// A row of an equal key is there.
     Present,
@@ -40,36 +27,23 @@ pub enum NotAdded {
 }
 
 /// Rows over lent slots. The first `used` slots hold the entries, ascending by key; the others hold anything.
+// Lent slots are as many as they are, so that the count of the entries stands beside them.
 #[derive(Drop)]
-pub struct Table<'a, T, By> {
+pub struct Table<'a, T: Row<By>, By> {
     slots: &'a mut [T],
     used: usize,
     by: By,
+    pub ghost fits: { used ≤ length slots.now },
+    pub ghost kept: { ordered T.Row.key T.Key.cmp (take used slots.now) ≡ true },
 }
 
-// How many rows come before key k.
-fn count_below<By, T: Row<By>>(all: &[T], k: &T::Key) -> usize
-    requires { ordered T.Row.key T.Row.order all.now ≡ true }
-    ensures answer { result ≡ below T.Row.key T.Row.order k.now all.now }
-    ensures within { result ≤ length all.now }
-{
-    let mut low = 0;
-    let mut high = all.len();
-    while low < high {
-        let mid = low + (high - low) / 2;
-        match T::compare(&all[mid].key_of(), k) {
-            Ordering::Less => low = mid + 1,
-            _ => high = mid,
-        }
-    }
-    low
-}
-
+// Each contract names the key and its order, since the definitions stand for rows of any kind.
 impl<'a, By, T: Row<By>> Table<'a, T, By> {
+    ghost use Rattle.table.specs.Tables.{all_slots, entries, room, Leaves, Seat, taken};
+
     /// An empty table over the lent slots, in the order that `by` names.
     pub fn new(slots: &'a mut [T], by: By) -> Table<'a, T, By>
         ensures empty { entries result ≡ [] }
-        ensures kept { Kept T.Row.key T.Row.order result }
         ensures room { room result ≡ length slots.old }
     {
         Table { slots, used: 0, by }
@@ -77,16 +51,13 @@ impl<'a, By, T: Row<By>> Table<'a, T, By> {
 
     /// Lets go of all entries.
     pub fn clear(&mut self)
-        ensures empty { entries self.new ≡ [] }
-        ensures kept { Kept T.Row.key T.Row.order self.new }
-        ensures room { room self.new ≡ room self.old }
+        ensures { Leaves self.old self.new [] }
     {
         self.used = 0;
     }
 
     /// How many entries there are.
     pub fn count(&self) -> usize
-        requires { Kept T.Row.key T.Row.order self.now }
         ensures { result ≡ length (entries self.now) }
     {
         self.entries().len()
@@ -101,7 +72,6 @@ impl<'a, By, T: Row<By>> Table<'a, T, By> {
 
     /// The entries, ascending by key.
     pub fn entries(&self) -> &[T]
-        requires { Kept T.Row.key T.Row.order self.now }
         ensures { result.now ≡ entries self.now }
     {
         &self.slots[0..self.used]
@@ -109,106 +79,64 @@ impl<'a, By, T: Row<By>> Table<'a, T, By> {
 
     // Where the entry of key k stands, or else would stand.
     fn seat(&self, k: &T::Key) -> Result<usize, usize>
-        requires { Kept T.Row.key T.Row.order self.now }
-        ensures { Seat T.Row.key T.Row.order k.now (entries self.now) result }
+        ensures { Seat T.Row.key T.Key.cmp k.now (entries self.now) result }
     {
-        let all = self.entries();
-        let i = count_below(all, k);
-        if i == all.len() {
-            return Err(i);
-        }
-        match T::compare(&all[i].key_of(), k) {
-            Ordering::Equal => Ok(i),
-            _ => Err(i),
-        }
-    }
-
-    // Shifts the slots from place i to the last entry one place on, and puts e at i.
-    fn shift_in(&mut self, i: usize, e: T)
-        requires forward { i ≤ self.old.used }
-        requires within { self.old.used < room self.old }
-        ensures used { self.new.used ≡ self.old.used + 1 }
-        ensures slots { all_slots self.new ≡ slice_set (paste (all_slots self.old) (i + 1) (drop i (all_slots self.old)) (self.old.used - i)) i e }
-    {
-        let used = self.used;
-        self.slots.copy_within(i..used, i + 1);
-        self.slots[i] = e;
-        self.used = used + 1;
-    }
-
-    // Shifts the slots from place j to the last entry back to place i.
-    fn shift_out(&mut self, i: usize, j: usize)
-        requires forward { i ≤ j }
-        requires within { j ≤ self.old.used }
-        requires fits { self.old.used ≤ room self.old }
-        ensures used { self.new.used ≡ self.old.used - (j - i) }
-        ensures slots { all_slots self.new ≡ paste (all_slots self.old) i (drop j (all_slots self.old)) (self.old.used - j) }
-    {
-        let used = self.used;
-        self.slots.copy_within(j..used, i);
-        self.used = used - (j - i);
+        self.entries().binary_search_by_key(k, |e| e.key_of())
     }
 
     // Puts e over the entry at place i.
     fn put(&mut self, i: usize, e: T)
         requires within { i < length (entries self.old) }
-        requires fits { self.old.used ≤ room self.old }
-        ensures entries { entries self.new ≡ slice_set (entries self.old) i e }
-        ensures room { room self.new ≡ room self.old }
-        ensures fits { self.new.used ≤ room self.new }
+        requires orderly { ordered T.Row.key T.Key.cmp (slice_set (entries self.old) i e) ≡ true }
+        ensures { Leaves self.old self.new (slice_set (entries self.old) i e) }
     {
         self.slots[i] = e;
     }
 
-    // Puts e in before the entry at place i.
+    // Puts e in before the entry at place i. While the others move, the entries before i stand alone.
     fn insert(&mut self, i: usize, e: T)
         requires within { i ≤ length (entries self.old) }
         requires free { self.old.used < room self.old }
-        ensures entries { entries self.new ≡ insert (entries self.old) i e }
-        ensures room { room self.new ≡ room self.old }
-        ensures fits { self.new.used ≤ room self.new }
+        requires orderly { ordered T.Row.key T.Key.cmp (insert (entries self.old) i e) ≡ true }
+        ensures { Leaves self.old self.new (insert (entries self.old) i e) }
     {
-        self.shift_in(i, e);
+        let used = self.used;
+        self.used = i;
+        self.slots.copy_within(i..used, i + 1);
+        self.slots[i] = e;
+        self.used = used + 1;
     }
 
-    // Takes out the entries from place i to place j.
+    // Takes out the entries from place i to place j. While those behind move, the entries before i stand alone.
     fn cut(&mut self, i: usize, j: usize)
-        requires kept { Kept T.Row.key T.Row.order self.old }
         requires forward { i ≤ j }
         requires within { j ≤ length (entries self.old) }
-        ensures entries { entries self.new ≡ take i (entries self.old) ++ drop j (entries self.old) }
-        ensures room { room self.new ≡ room self.old }
-        ensures kept { Kept T.Row.key T.Row.order self.new }
+        ensures { Leaves self.old self.new (take i (entries self.old) ++ drop j (entries self.old)) }
     {
-        self.shift_out(i, j);
+        let used = self.used;
+        self.used = i;
+        self.slots.copy_within(j..used, i);
+        self.used = used - (j - i);
     }
 
     /// The entry of key k.
     pub fn get(&self, k: T::Key) -> Option<T>
-        requires { Kept T.Row.key T.Row.order self.now }
-        ensures { result ≡ found T.Row.key T.Row.order k (entries self.now) }
+        ensures { result ≡ found T.Row.key T.Key.cmp k (entries self.now) }
     {
-        match self.seat(&k) {
-            Ok(i) => Some(self.entries()[i]),
-            Err(_) => None,
-        }
+        let i = self.seat(&k).ok()?;
+        Some(self.entries()[i])
     }
 
     /// Puts e at its place, unless an entry of its key is there or every slot has an entry.
     pub fn add(&mut self, e: T) -> Result<(), NotAdded>
-        requires { Kept T.Row.key T.Row.order self.old }
-        ensures answer { result ≡ taken T.Row.key T.Row.order (room self.old) e (entries self.old) }
-        ensures entries { entries self.new ≡ (if is_ok result then placed T.Row.key T.Row.order e (entries self.old) else entries self.old) }
+        ensures answer { result ≡ taken T.Row.key T.Key.cmp (room self.old) e (entries self.old) }
+        ensures left { Leaves self.old self.new (if is_ok result then placed T.Row.key T.Key.cmp e (entries self.old) else entries self.old) }
         ensures refused { is_ok result ≡ false → self.new ≡ self.old }
-        ensures room { room self.new ≡ room self.old }
-        ensures kept { Kept T.Row.key T.Row.order self.new }
     {
         match self.seat(&e.key_of()) {
             Ok(_) => Err(NotAdded::Present),
+            Err(_) if self.used == self.capacity() => Err(NotAdded::Full),
             Err(i) => {
-                if self.used == self.capacity() {
-                    return Err(NotAdded::Full);
-                }
                 self.insert(i, e);
                 Ok(())
             }
@@ -217,69 +145,47 @@ impl<'a, By, T: Row<By>> Table<'a, T, By> {
 
     /// Puts e over the entry of its key, and returns that; without one, nothing changes.
     pub fn replace(&mut self, e: T) -> Option<T>
-        requires { Kept T.Row.key T.Row.order self.old }
-        ensures answer { result ≡ found T.Row.key T.Row.order (T.Row.key e) (entries self.old) }
-        ensures entries { entries self.new ≡ (if is_some result then placed T.Row.key T.Row.order e (entries self.old) else entries self.old) }
+        ensures answer { result ≡ found T.Row.key T.Key.cmp (T.Row.key e) (entries self.old) }
+        ensures left { Leaves self.old self.new (if is_some result then placed T.Row.key T.Key.cmp e (entries self.old) else entries self.old) }
         ensures refused { is_some result ≡ false → self.new ≡ self.old }
-        ensures room { room self.new ≡ room self.old }
-        ensures kept { Kept T.Row.key T.Row.order self.new }
     {
-        match self.seat(&e.key_of()) {
-            Ok(i) => {
-                let old = self.entries()[i];
-                self.put(i, e);
-                Some(old)
-            }
-            Err(_) => None,
-        }
+        let i = self.seat(&e.key_of()).ok()?;
+        let old = self.entries()[i];
+        self.put(i, e);
+        Some(old)
     }
 
     /// Takes out the entry of key k, and returns it; without one, nothing changes.
     pub fn remove(&mut self, k: T::Key) -> Option<T>
-        requires { Kept T.Row.key T.Row.order self.old }
-        ensures answer { result ≡ found T.Row.key T.Row.order k (entries self.old) }
-        ensures entries { entries self.new ≡ without T.Row.key T.Row.order k (entries self.old) }
+        ensures answer { result ≡ found T.Row.key T.Key.cmp k (entries self.old) }
+        ensures left { Leaves self.old self.new (without T.Row.key T.Key.cmp k (entries self.old)) }
         ensures refused { is_some result ≡ false → self.new ≡ self.old }
-        ensures room { room self.new ≡ room self.old }
-        ensures kept { Kept T.Row.key T.Row.order self.new }
     {
-        match self.seat(&k) {
-            Ok(i) => {
-                let old = self.entries()[i];
-                self.cut(i, i + 1);
-                Some(old)
-            }
-            Err(_) => None,
-        }
+        let i = self.seat(&k).ok()?;
+        let old = self.entries()[i];
+        self.cut(i, i + 1);
+        Some(old)
     }
 
     /// Takes out the first n entries, or all if there are fewer.
     pub fn remove_first(&mut self, n: usize)
-        requires { Kept T.Row.key T.Row.order self.old }
-        ensures entries { entries self.new ≡ drop n (entries self.old) }
-        ensures room { room self.new ≡ room self.old }
-        ensures kept { Kept T.Row.key T.Row.order self.new }
+        ensures { Leaves self.old self.new (drop n (entries self.old)) }
     {
-        if n < self.used {
-            self.cut(0, n);
-        } else {
-            self.clear();
-        }
+        self.cut(0, n.min(self.used));
     }
 
     /// Takes out all entries below key k.
     pub fn remove_below(&mut self, k: T::Key)
-        requires { Kept T.Row.key T.Row.order self.old }
-        ensures entries { entries self.new ≡ onward T.Row.key T.Row.order k (entries self.old) }
-        ensures room { room self.new ≡ room self.old }
-        ensures kept { Kept T.Row.key T.Row.order self.new }
+        ensures { Leaves self.old self.new (onward T.Row.key T.Key.cmp k (entries self.old)) }
     {
-        let below = count_below(self.entries(), &k);
+        let below = self
+            .entries()
+            .partition_point(|e| e.key_of().cmp(&k).is_lt());
         self.cut(0, below);
     }
 }
 
 /// The laws of the entries, as one theorem for every kind of row.
 pub fn laws_stand<By, T: Row<By>>()
-    ensures { Laws T.Row.key T.Row.order }
+    ensures { Laws T.Row.key T.Key.cmp }
 {}

@@ -1,9 +1,9 @@
--- The keys of a row, and their orders: numbers by size, names by their first byte that differs.
+-- The keys of a row, and the order of names: by their first byte that differs. Numbers are in the order of their size.
 use Rattle.std.specs.Prelude.{ℕ, List}
+use Rattle.std.specs.Cmp.Lexicographic.{slice_cmp}
+use Rattle.std.specs.Ordering.{nat_cmp}
 use Rattle.std.specs.declared.cmp.Ordering.{Ordering}
 use Rattle.table_rows.specs.declared.Named.{Named}
-use Rattle.std.specs.Ordering.{nat_cmp}
-use Rattle.std.specs.Cmp.Lexicographic.{slice_cmp}
 
 abbrev pub number_of : Named → ℕ
 number_of e = e.number
@@ -11,8 +11,5 @@ number_of e = e.number
 abbrev pub name_of : Named → List ℕ
 name_of e = e.name
 
-abbrev pub by_number : ℕ → ℕ → Ordering
-by_number = nat_cmp
-
 abbrev pub by_name : List ℕ → List ℕ → Ordering
-by_name = (slice_cmp nat_cmp)
+by_name = slice_cmp nat_cmp

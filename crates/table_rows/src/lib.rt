@@ -1,13 +1,8 @@
 //! One row in the order of its number and in the order of its name: two kinds of rows, and two tables that hold them at once.
 #![tactic(auto)]
 
-ghost use Rattle.table.specs.Tables.{Kept};
-ghost use Rattle.table_rows.specs.Keys.{number_of, name_of, by_number, by_name};
-ghost use Rattle.std.specs.Cmp.{nat_cmp_total};
-ghost use Rattle.table.proofs.Laws.{total_lawful};
-ghost use Rattle.std.specs.Cmp.Lexicographic.{lists_total};
+ghost use Rattle.table_rows.specs.Keys.{number_of, name_of};
 
-use std::cmp::Ordering;
 use table::{Row, Table};
 
 mod methods;
@@ -31,16 +26,8 @@ impl Row<ByNumber> for Named {
 
     ghost key = { number_of };
 
-    ghost order = { by_number };
-
-    ghost lawful = { total_lawful nat_cmp_total };
-
     fn key_of(&self) -> u32 {
         self.number
-    }
-
-    fn compare(a: &u32, b: &u32) -> Ordering {
-        a.cmp(b)
     }
 }
 
@@ -49,16 +36,8 @@ impl Row<ByName> for Named {
 
     ghost key = { name_of };
 
-    ghost order = { by_name };
-
-    ghost lawful = { total_lawful (lists_total nat_cmp_total) };
-
     fn key_of(&self) -> [u8; 6] {
         self.name
-    }
-
-    fn compare(a: &[u8; 6], b: &[u8; 6]) -> Ordering {
-        a.cmp(b)
     }
 }
 
@@ -67,5 +46,4 @@ impl Row<ByName> for Named {
 pub struct Directory<'a> {
     numbers: Table<'a, Named, ByNumber>,
     names: Table<'a, Named, ByName>,
-    ghost sound: { Kept number_of by_number numbers × Kept name_of by_name names },
 }

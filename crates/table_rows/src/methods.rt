@@ -1,7 +1,8 @@
 ghost use Rattle.std.specs.Prelude.{◌≡◌, [], is_ok, if◌then◌else◌};
+ghost use Rattle.std.specs.Ordering.{nat_cmp};
 ghost use Rattle.table.specs.Rows.{Laws, found, placed, without};
 ghost use Rattle.table_rows.specs.Directories.{in_numbers, in_names, admits, less_name};
-ghost use Rattle.table_rows.specs.Keys.{number_of, name_of, by_number, by_name};
+ghost use Rattle.table_rows.specs.Keys.{number_of, name_of, by_name};
 
 use crate::{ByName, ByNumber, Directory, Named};
 use table::{NotAdded, Table, laws_stand};
@@ -19,7 +20,7 @@ impl<'a> Directory<'a> {
 
     /// The row of a number.
     pub fn numbered(&self, number: u32) -> Option<Named>
-        ensures { result ≡ found number_of by_number number (in_numbers self.now) }
+        ensures { result ≡ found number_of nat_cmp number (in_numbers self.now) }
     {
         self.numbers.get(number)
     }
@@ -34,38 +35,32 @@ impl<'a> Directory<'a> {
     /// Adds a row to both tables, or to none.
     pub fn add(&mut self, e: Named) -> Result<(), NotAdded>
         ensures answer { result ≡ admits self.old e }
-        ensures numbers { in_numbers self.new ≡ (if is_ok result then placed number_of by_number e (in_numbers self.old) else in_numbers self.old) }
+        ensures numbers { in_numbers self.new ≡ (if is_ok result then placed number_of nat_cmp e (in_numbers self.old) else in_numbers self.old) }
         ensures names { in_names self.new ≡ (if is_ok result then placed name_of by_name e (in_names self.old) else in_names self.old) }
     {
         self.numbers.add(e)?;
-        match self.names.add(e) {
-            Ok(()) => Ok(()),
-            Err(why) => {
-                let _ = self.numbers.remove(e.number);
-                Err(why)
-            }
+        let added = self.names.add(e);
+        if added.is_err() {
+            let _ = self.numbers.remove(e.number);
         }
+        added
     }
 
     /// Takes the row of a number out of both tables.
     pub fn remove(&mut self, number: u32) -> Option<Named>
-        ensures answer { result ≡ found number_of by_number number (in_numbers self.old) }
-        ensures numbers { in_numbers self.new ≡ without number_of by_number number (in_numbers self.old) }
+        ensures answer { result ≡ found number_of nat_cmp number (in_numbers self.old) }
+        ensures numbers { in_numbers self.new ≡ without number_of nat_cmp number (in_numbers self.old) }
         ensures names { in_names self.new ≡ less_name result (in_names self.old) }
     {
-        match self.numbers.remove(number) {
-            Some(e) => {
-                let _ = self.names.remove(e.name);
-                Some(e)
-            }
-            None => None,
-        }
+        let e = self.numbers.remove(number)?;
+        let _ = self.names.remove(e.name);
+        Some(e)
     }
 }
 
 /// The laws of the entries, at both kinds of rows.
 pub fn both_lawful()
-    ensures numbers { Laws number_of by_number }
+    ensures numbers { Laws number_of nat_cmp }
     ensures names { Laws name_of by_name }
 {
     laws_stand::<ByNumber, Named>();

@@ -9,33 +9,16 @@ fn row(number: u32) -> Named {
     }
 }
 
-// Whether the entries have these three numbers, in this order.
-fn holds(all: &[Named], a: u32, b: u32, c: u32) -> bool {
-    match all {
-        [x, y, z] => x.number == a && y.number == b && z.number == c,
-        _ => false,
-    }
-}
-
-fn is_present(r: Result<(), NotAdded>) -> bool {
-    match r {
-        Err(NotAdded::Present) => true,
-        _ => false,
-    }
-}
-
-fn is_full(r: Result<(), NotAdded>) -> bool {
-    match r {
-        Err(NotAdded::Full) => true,
-        _ => false,
-    }
+// Whether the entries have these numbers, in this order.
+fn holds(all: &[Named], numbers: [u32; 3]) -> bool {
+    all.iter().map(|entry| entry.number).eq(numbers)
 }
 
 #[test]
 fn no_slots(rt: HostRuntime) {
     let mut slots = [row(0); 0];
     let mut t = Table::new(&mut slots, ByNumber);
-    assert!(rt; is_full(t.add(row(1))));
+    assert!(rt; t.add(row(1)) == Err(NotAdded::Full));
     assert!(rt; t.remove(1).is_none());
     t.remove_first(1);
     t.remove_below(1);
@@ -50,12 +33,12 @@ fn keeps_order_and_uses_freed_slots(rt: HostRuntime) {
     assert!(rt; t.add(row(5)).is_ok());
     assert!(rt; t.add(row(2)).is_ok());
     assert!(rt; t.add(row(8)).is_ok());
-    assert!(rt; holds(t.entries(), 2, 5, 8));
-    assert!(rt; is_present(t.add(row(5))));
-    assert!(rt; is_full(t.add(row(6))));
+    assert!(rt; holds(t.entries(), [2, 5, 8]));
+    assert!(rt; t.add(row(5)) == Err(NotAdded::Present));
+    assert!(rt; t.add(row(6)) == Err(NotAdded::Full));
     assert!(rt; t.remove(2).is_some());
     assert!(rt; t.add(row(6)).is_ok());
-    assert!(rt; holds(t.entries(), 5, 6, 8));
+    assert!(rt; holds(t.entries(), [5, 6, 8]));
 }
 
 #[test]
@@ -66,7 +49,7 @@ fn lets_go_from_the_front(rt: HostRuntime) -> Result<(), Fail> {
         assert!(rt; t.add(row(n)).is_ok());
     }
     t.remove_first(2);
-    assert!(rt; holds(t.entries(), 2, 3, 4));
+    assert!(rt; holds(t.entries(), [2, 3, 4]));
     t.remove_below(4);
     assert!(rt; t.count() == 1);
     assert!(rt; t.get(4).is_some());
@@ -88,10 +71,10 @@ fn one_row_in_two_orders(rt: HostRuntime) {
         .is_ok()
     );
     assert!(rt;
-        is_present(d.add(Named {
+        d.add(Named {
             number: 2,
             name: *b"B     ",
-        }))
+        }) == Err(NotAdded::Present)
     );
     assert!(rt; d.numbered(2).is_none());
     assert!(rt;
@@ -102,10 +85,10 @@ fn one_row_in_two_orders(rt: HostRuntime) {
         .is_ok()
     );
     assert!(rt;
-        is_full(d.add(Named {
+        d.add(Named {
             number: 4,
             name: *b"C     ",
-        }))
+        }) == Err(NotAdded::Full)
     );
     assert!(rt; d.remove(1).is_some());
     assert!(rt; d.named(*b"B     ").is_none());

@@ -1,4 +1,5 @@
 pub mod Answers
+pub mod Fields
 pub mod Numbers
 pub mod Names
 pub mod Limits

@@ -1,11 +1,12 @@
 -- What the bytes of one message say, or the first cause that they show by themselves.
-use Rattle.std.specs.Prelude.{ℕ, cond, ◌&&◌, ◌||◌, List, length, take, drop, Some, None, Ok, Err, Option, Result, ◌==◌, nat_le, nat_lt, slice_index}
+use Rattle.std.specs.Prelude.{ℕ, cond, ◌&&◌, ◌||◌, List, length, Some, None, Ok, Err, Option, Result, ◌==◌, nat_le, nat_lt, slice_index}
+use Rattle.std.specs.Option.{option_map, ok_or}
 use Rattle.codes.specs.declared.cause.Cause.{Cause}
 use Rattle.codes.specs.declared.cause.Cause.TheVariants.{Length, Field, InSnapshot}
 use Rattle.codes.specs.declared.side.Side.{Side}
 use Rattle.codes.specs.declared.event.EventCode.{EventCode}
 use Rattle.codes.specs.declared.status.Status.{Status}
-use Rattle.wire.specs.declared.symbol.Symbol.{Symbol}
+use Rattle.wire.specs.Names.{Symbol}
 use Rattle.wire.specs.declared.order.OrderRow.{OrderRow}
 use Rattle.wire.specs.declared.order.Order.{Order}
 use Rattle.wire.specs.declared.message.Message.{Message}
@@ -13,9 +14,10 @@ use Rattle.wire.specs.declared.message.Message.TheVariants as message
 use Rattle.wire.specs.declared.message.SnapshotMessage.{SnapshotMessage}
 use Rattle.wire.specs.declared.message.SnapshotMessage.TheVariants as there
 use Rattle.wire.specs.Numbers.{most32, be32, be64}
+pub use Rattle.wire.specs.Fields.{part}
 use Rattle.codes.specs.Codes.{side_of, event_of, status_of}
 use Rattle.wire.specs.Names.{symbol_of}
-use Rattle.wire.specs.Answers.{through, or_else}
+use Rattle.wire.specs.Answers.{through}
 use Rattle.wire.specs.Limits.{some_shares, in_range}
 
 -- what a message of the feed says
@@ -33,17 +35,13 @@ pub data Told : Type 0 where
   said : Said → Told
   end : ℕ → Told
 
--- n bytes from an offset on
-abbrev pub part : ℕ → ℕ → List ℕ → List ℕ
-part at n m = take n (drop at m)
-
 -- a row within the limits of an order
 abbrev pub checked : OrderRow → Option OrderRow
 checked row = cond (in_range row.reference row.shares row.price) (Some row) None
 
 -- fields that must be as listed
 abbrev pub listed : {X Y : Type 0} → (X → Y) → Option X → Result Y Cause
-listed say o = or_else Field say o
+listed say o = ok_or (option_map say o) Field
 
 -- the letter that decides the kind
 abbrev pub letter_of : List ℕ → ℕ

@@ -1,16 +1,15 @@
 -- What the bytes of a packet say, or the first refusal that they meet.
-use Rattle.std.specs.Prelude.{◌≡◌, ℕ, zero, suc, ◌+◌, ◌-◌, Bool, cond, ◌&&◌, List, [], ◌∷◌, length, take, drop, Some, None, Err, Option, Result, ◌==◌, nat_le, nat_lt}
-use Rattle.std.specs.Option.{option_map}
+use Rattle.std.specs.Prelude.{◌≡◌, ℕ, ◌+◌, ◌-◌, Bool, cond, ◌&&◌, List, [], ◌∷◌, length, drop, Some, None, Err, Option, Result, ◌==◌, nat_le, nat_lt}
+use Rattle.std.specs.Option.{option_map, ok_or}
 use Rattle.codes.specs.declared.refusal.Refusal.{Refusal}
 use Rattle.codes.specs.declared.refusal.Refusal.TheVariants.{ShortPacket, PacketNumbers, PacketLayout}
-use Rattle.wire.specs.declared.session.Session.{Session}
+use Rattle.wire.specs.Names.{Session}
 use Rattle.wire.specs.declared.packet.Packet.{Packet}
 use Rattle.wire.specs.declared.packet.Packet.TheVariants as packet
-use Rattle.wire.specs.declared.packet.Messages.{Messages}
-use Rattle.wire.specs.declared.packet.Numbered.{Numbered}
+use Rattle.wire.specs.declared.messages.Messages.{Messages}
+use Rattle.wire.specs.declared.messages.Numbered.{Numbered}
 use Rattle.wire.specs.Numbers.{most16, most32, be16, be32}
-use Rattle.wire.specs.Answers.{or_else}
-use Rattle.wire.specs.Frames.{front_length}
+unfoldable pub use Rattle.wire.specs.Frames.{message_length, unpacked, walked}
 use Rattle.wire.specs.Names.{session_of}
 
 -- a heartbeat tells the number of the next message and the session;
@@ -23,18 +22,8 @@ pub data Sent : Type 0 where
 abbrev pub well_numbered : ℕ → ℕ → Bool
 well_numbered number count = nat_le 1 number && nat_le count most16 && nat_le (number + (count - 1)) most32
 
--- a message of a packet has 5 to 80 bytes behind its length
-abbrev pub message_length : List ℕ → Option ℕ
-message_length = front_length 5 80
-
--- so many messages, each behind its length, and no byte left over
-unfoldable pub unpacked : ℕ → List ℕ → Option (List (List ℕ))
-unpacked zero bytes = cond (length bytes == 0) (Some []) None
-unpacked (suc n) bytes =
-    elim (message_length bytes) [ None ↦ None | Some k ↦ option_map (λ ms. take k (drop 2 bytes) ∷ ms) (unpacked n (drop (2 + k) bytes)) ]
-
 abbrev pub laid_out : {X : Type 0} → (X → Sent) → Option X → Result Sent Refusal
-laid_out say o = or_else PacketLayout say o
+laid_out say o = ok_or (option_map say o) PacketLayout
 
 -- what stands behind a header: a heartbeat has count 0 and its session to the end
 abbrev pub behind : ℕ → ℕ → List ℕ → Result Sent Refusal
@@ -47,13 +36,7 @@ behind number count rest =
 unfoldable pub packet_of : List ℕ → Result Sent Refusal
 packet_of bytes = cond (nat_lt (length bytes) 6) (Err ShortPacket) (behind (be32 bytes 0) (be16 bytes 4) (drop 6 bytes))
 
--- the walk over the messages: so many as are left, while each is whole and its number is within the limit
-unfoldable pub walked : ℕ → ℕ → List ℕ → List (List ℕ)
-walked zero number bytes = []
-walked (suc n) number bytes =
-    cond (nat_lt most32 number) []
-    (elim (message_length bytes) [ None ↦ [] | Some k ↦ take k (drop 2 bytes) ∷ walked n (number + 1) (drop (2 + k) bytes) ])
-
+-- the messages that are still to be walked
 abbrev pub left_in : Messages → List (List ℕ)
 left_in m = walked m.left m.number m.bytes.now
 

@@ -1,30 +1,46 @@
-// Unsigned big-endian integers at an offset, and the length in front of a message.
+// The bytes of a field, unsigned big-endian integers, and the length in front of a message.
 ghost use Rattle.std.specs.Prelude.{◌≡◌, ℕ, ◌+◌, ◌≤◌, length};
+ghost use Rattle.wire.specs.Fields.{part, field_of};
 ghost use Rattle.wire.specs.Frames.{front_length};
 ghost use Rattle.wire.specs.Numbers.{be16 as bigEndian16, be32 as bigEndian32, be64 as bigEndian64};
 
 // The largest 4-byte integer of the feed.
-pub(crate) const MOST: u32 = 2_147_483_647;
+pub const MOST: u32 = 2_147_483_647;
 
+// The bytes of a field that begins at an offset, where there are enough.
+pub fn field<const N: usize>(bytes: &[u8], at: usize) -> Option<[u8; N]>
+    ensures { result ≡ field_of N at bytes.now }
+{
+    bytes.get(at..)?.first_chunk().copied()
+}
+
+fn field_within<const N: usize>(bytes: &[u8], at: usize) -> [u8; N]
+    requires { at + N ≤ length bytes.now }
+    ensures { result ≡ part at N bytes.now }
+{
+    field(bytes, at).unwrap()
+}
+
+// Each integer has its own `from_be_bytes`: std has no trait over them.
 pub(crate) fn be16(bytes: &[u8], at: usize) -> u16
     requires { at + 2 ≤ length bytes.now }
     ensures { result ≡ bigEndian16 bytes.now at }
 {
-    u16::from_be_bytes([bytes[at], bytes[at + 1]])
+    u16::from_be_bytes(field_within(bytes, at))
 }
 
 pub(crate) fn be32(bytes: &[u8], at: usize) -> u32
     requires { at + 4 ≤ length bytes.now }
     ensures { result ≡ bigEndian32 bytes.now at }
 {
-    u32::from_be_bytes([bytes[at], bytes[at + 1], bytes[at + 2], bytes[at + 3]])
+    u32::from_be_bytes(field_within(bytes, at))
 }
 
 pub(crate) fn be64(bytes: &[u8], at: usize) -> u64
     requires { at + 8 ≤ length bytes.now }
     ensures { result ≡ bigEndian64 bytes.now at }
 {
-    u64::from(be32(bytes, at)) * 0x1_0000_0000 + u64::from(be32(bytes, at + 4))
+    u64::from_be_bytes(field_within(bytes, at))
 }
 
 // The length in front of the bytes, where it lies within its limits and that many bytes follow it.

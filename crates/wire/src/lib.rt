@@ -2,15 +2,17 @@
 #![tactic(auto)]
 
 mod bytes;
+mod frames;
 mod message;
+mod messages;
+mod name;
 mod order;
 mod packet;
-mod session;
-mod symbol;
 
-pub use bytes::front_length;
+pub use bytes::{MOST, field, front_length};
+pub use frames::{LEAST_MESSAGE, MOST_MESSAGE, skip_messages};
 pub use message::{Message, SnapshotMessage};
+pub use messages::{Messages, Numbered};
+pub use name::{Name, Session, SessionBytes, Symbol, SymbolBytes, same_name};
 pub use order::{Order, OrderRow};
-pub use packet::{Messages, Numbered, Packet};
-pub use session::{Session, SessionBytes};
-pub use symbol::{Symbol, SymbolBytes};
+pub use packet::Packet;

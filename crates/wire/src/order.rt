@@ -2,7 +2,7 @@
 ghost use Rattle.std.specs.Prelude.{◌≡◌, true};
 ghost use Rattle.wire.specs.Limits.{in_range};
 
-use crate::symbol::Symbol;
+use crate::name::Symbol;
 use codes::Side;
 
 mod calls;

@@ -1,5 +1,5 @@
 -- The worked histories, computed.
-use Rattle.std.proofs.Common.{◌≡◌, refl}
+use Rattle.std.proofs.Common.{refl}
 use Rattle.worked_histories.specs.Histories.{LateJoin, LossRepaired, RedNeeded, ForeignRefused, StopsBeforeGreen, RepeatsAndDrops}
 use Rattle.worked_histories.proofs.Opened.{opened}
 use Rattle.worked_histories.proofs.Sources.{first_belongs, pair_belongs}

@@ -11,7 +11,7 @@ use Rattle.codes.specs.declared.refusal.Refusal.TheVariants as refusal
 use Rattle.codes.specs.declared.short.ShortSell.TheVariants as short
 use Rattle.codes.specs.declared.side.Side.TheVariants as side
 use Rattle.codes.specs.declared.trading.Trading.TheVariants as trading
-use Rattle.wire.specs.declared.session.Session.{Session}
+use Rattle.wire.specs.Names.{Session}
 use Rattle.source.specs.Meanings.{Meaning, numbered_from}
 use Rattle.source.specs.Pairs.{paired}
 use Rattle.book.specs.declared.rows.BookRow.{BookRow}

@@ -1,5 +1,5 @@
 -- The bytes that a venue sends: messages, packets and session bytes, laid out from their fields.
-use Rattle.std.specs.Prelude.{ℕ, suc, ◌-◌, ◌/◌, ◌%◌, List, [], ◌∷◌, ◌++◌, length, replicate, codes}
+use Rattle.std.specs.Prelude.{ℕ, suc, ◌/◌, ◌%◌, List, [], ◌∷◌, ◌++◌, length, replicate, codes}
 use Prim.Native.String.{String}
 
 -- integers of 2, 4 and 8 bytes, the highest byte first

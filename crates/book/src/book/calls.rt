@@ -1,11 +1,11 @@
 // The calls of a book.
-ghost use Rattle.std.specs.Prelude.{◌≡◌, ◌≤◌, false, length, is_some, IfSome, is_ok, if◌then◌else◌, Some, Err};
+ghost use Rattle.std.specs.Prelude.{◌≡◌, ◌≤◌, length, is_some, IfSome, if◌then◌else◌, Some, Err};
 ghost use Rattle.std.specs.Option.{option_map};
 ghost use Rattle.codes.specs.declared.cause.Cause.TheVariants.{LiveReference};
-ghost use Rattle.wire.specs.Messages.{row_of, checked, saying, telling};
-ghost use Rattle.wire.specs.Answers.{through};
+ghost use Rattle.wire.specs.Messages.{row_of, checked, saying};
 ghost use Rattle.book.specs.Books.{plain, slots, lent};
-ghost use Rattle.book.specs.Plain.{empty, stock_of, order_of, told, added, entered, reduced, taken_off, less, done, done_if_read, ran, done_there_if_read, ran_there};
+ghost use Rattle.book.specs.Calls.{Ran, RanThere};
+ghost use Rattle.book.specs.Plain.{empty, stock_of, order_of, told, added, entered, reduced, taken_off, less, done, ran, ran_there};
 
 use super::Book;
 use crate::rows::{ByReference, BySymbol, Stock};
@@ -46,19 +46,17 @@ impl<'a> Book<'a> {
 
     // Sets one state of a stock; a new symbol gets a stock where a slot is free.
     fn tell(&mut self, symbol: Symbol, status: Status) -> Result<(), Cause>
-        ensures answer { through (λ _. plain self.new) result ≡ told (slots self.old) (plain self.old) symbol status (stock_of symbol (plain self.old)) }
-        ensures stopped { is_ok result ≡ false → plain self.new ≡ plain self.old }
-        ensures slots { slots self.new ≡ slots self.old }
+        ensures { Ran self.old self.new result (told (slots self.old) (plain self.old) symbol status (stock_of symbol (plain self.old))) }
     {
         match self.stock(symbol) {
             Some(stock) => {
                 let _ = self.stocks.replace(stock.with(status));
                 Ok(())
             }
-            None => match self.stocks.add(Stock::new(symbol).with(status)) {
-                Ok(()) => Ok(()),
-                Err(_) => Err(Cause::TableFull),
-            },
+            None => self
+                .stocks
+                .add(Stock::new(symbol).with(status))
+                .map_err(|_| Cause::TableFull),
         }
     }
 
@@ -67,18 +65,13 @@ impl<'a> Book<'a> {
         ensures answer { option_map row_of result ≡ order_of reference (plain self.now) }
         ensures live { IfSome result (λ order. order_of (row_of order).reference (plain self.now) ≡ Some (row_of order)) }
     {
-        match self.orders.get(reference) {
-            Some(row) => Order::new(row),
-            None => None,
-        }
+        Order::new(self.orders.get(reference)?)
     }
 
     // Adds an order whose symbol has a stock.
     // The stock is looked up first, so that no message costs more than two searches.
     fn add(&mut self, order: Order) -> Result<(), Cause>
-        ensures answer { through (λ _. plain self.new) result ≡ added (slots self.old) (plain self.old) (row_of order) }
-        ensures stopped { is_ok result ≡ false → plain self.new ≡ plain self.old }
-        ensures slots { slots self.new ≡ slots self.old }
+        ensures { Ran self.old self.new result (added (slots self.old) (plain self.old) (row_of order)) }
     {
         let row = order.row();
         if self.stock(row.symbol).is_some() {
@@ -91,27 +84,22 @@ impl<'a> Book<'a> {
     }
 
     // Enters an order where its reference is free and so is a slot. Orders come into the book here alone.
+    #[tactic(auto, using(crate::proofs::Live::put_within))]
     fn enter(&mut self, order: Order) -> Result<(), Cause>
-        ensures answer { through (λ _. plain self.new) result ≡ (if is_some (order_of (row_of order).reference (plain self.old)) then Err LiveReference else entered (slots self.old) (plain self.old) (row_of order)) }
-        ensures stopped { is_ok result ≡ false → plain self.new ≡ plain self.old }
-        ensures slots { slots self.new ≡ slots self.old }
+        ensures { Ran self.old self.new result (if is_some (order_of (row_of order).reference (plain self.old)) then Err LiveReference else entered (slots self.old) (plain self.old) (row_of order)) }
     {
-        match self.orders.add(order.row()) {
-            Ok(()) => Ok(()),
-            Err(NotAdded::Present) => Err(Cause::LiveReference),
-            Err(NotAdded::Full) => Err(Cause::TableFull),
-        }
+        // by a match, since neither type is the book's to convert
+        self.orders.add(order.row()).map_err(|why| match why {
+            NotAdded::Present => Cause::LiveReference,
+            NotAdded::Full => Cause::TableFull,
+        })
     }
 
     // Takes shares off the order of a reference, if it has as many.
     fn reduce(&mut self, reference: u32, shares: u32) -> Result<(), Cause>
-        ensures answer { through (λ _. plain self.new) result ≡ reduced (plain self.old) shares (order_of reference (plain self.old)) }
-        ensures stopped { is_ok result ≡ false → plain self.new ≡ plain self.old }
-        ensures slots { slots self.new ≡ slots self.old }
+        ensures { Ran self.old self.new result (reduced (plain self.old) shares (order_of reference (plain self.old))) }
     {
-        let Some(order) = self.order(reference) else {
-            return Err(Cause::NoOrder);
-        };
+        let order = self.order(reference).ok_or(Cause::NoOrder)?;
         if shares > order.row().shares {
             return Err(Cause::TooManyShares);
         }
@@ -120,6 +108,7 @@ impl<'a> Book<'a> {
     }
 
     // Takes shares off a live order, which leaves when none remain. Live orders change and leave here alone.
+    #[tactic(auto, using(crate::proofs::Live::put_within, crate::proofs::Live::without_within))]
     fn take_off(&mut self, order: Order, shares: u32)
         requires live { order_of (row_of order).reference (plain self.old) ≡ Some (row_of order) }
         requires enough { shares ≤ (row_of order).shares }
@@ -139,10 +128,9 @@ impl<'a> Book<'a> {
 
     // Does what a message says.
     fn follow(&mut self, message: Message) -> Result<(), Cause>
-        ensures answer { through (λ _. plain self.new) result ≡ done (slots self.old) (plain self.old) (saying message) }
-        ensures stopped { is_ok result ≡ false → plain self.new ≡ plain self.old }
-        ensures slots { slots self.new ≡ slots self.old }
+        ensures { Ran self.old self.new result (done (slots self.old) (plain self.old) (saying message)) }
     {
+        // an arm for each kind, as the venue lists them
         match message {
             Message::Second => Ok(()),
             Message::Event(code) => {
@@ -157,56 +145,26 @@ impl<'a> Book<'a> {
         }
     }
 
-    // Does what a message that was read says.
-    fn follow_read(&mut self, read: Result<Message, Cause>) -> Result<(), Cause>
-        ensures answer { through (λ _. plain self.new) result ≡ done_if_read (slots self.old) (plain self.old) (through saying read) }
-        ensures stopped { is_ok result ≡ false → plain self.new ≡ plain self.old }
-        ensures slots { slots self.new ≡ slots self.old }
-    {
-        match read {
-            Ok(message) => self.follow(message),
-            Err(cause) => Err(cause),
-        }
-    }
-
     /// Runs one message of the feed. Where a cause stops it, nothing changes.
+    #[tactic(auto, unfolding(crate::specs::Plain::ran))]
     pub fn run(&mut self, message: &[u8]) -> Result<(), Cause>
-        ensures answer { through (λ _. plain self.new) result ≡ ran (slots self.old) (plain self.old) message.now }
-        ensures stopped { is_ok result ≡ false → plain self.new ≡ plain self.old }
-        ensures slots { slots self.new ≡ slots self.old }
+        ensures { Ran self.old self.new result (ran (slots self.old) (plain self.old) message.now) }
     {
-        self.follow_read(Message::read(message))
-    }
-
-    // Does what a message of a snapshot says.
-    fn follow_snapshot(
-        &mut self,
-        read: Result<SnapshotMessage, Cause>,
-    ) -> Result<Option<u32>, Cause>
-        ensures answer { through (λ next. (next, plain self.new)) result ≡ done_there_if_read (slots self.old) (plain self.old) (through telling read) }
-        ensures stopped { is_ok result ≡ false → plain self.new ≡ plain self.old }
-        ensures slots { slots self.new ≡ slots self.old }
-    {
-        let entry = match read {
-            Ok(entry) => entry,
-            Err(cause) => return Err(cause),
-        };
-        match entry {
-            SnapshotMessage::End { next } => Ok(Some(next)),
-            SnapshotMessage::Message(message) => match self.follow(message) {
-                Ok(()) => Ok(None),
-                Err(cause) => Err(cause),
-            },
-        }
+        self.follow(Message::read(message)?)
     }
 
     /// Runs one message of a snapshot, and answers the next number where it is the End.
+    #[tactic(auto, unfolding(crate::specs::Plain::ran_there))]
     pub fn run_snapshot(&mut self, message: &[u8]) -> Result<Option<u32>, Cause>
-        ensures answer { through (λ next. (next, plain self.new)) result ≡ ran_there (slots self.old) (plain self.old) message.now }
-        ensures stopped { is_ok result ≡ false → plain self.new ≡ plain self.old }
-        ensures slots { slots self.new ≡ slots self.old }
+        ensures { RanThere self.old self.new result (ran_there (slots self.old) (plain self.old) message.now) }
     {
-        self.follow_snapshot(SnapshotMessage::read(message))
+        match SnapshotMessage::read(message)? {
+            SnapshotMessage::End { next } => Ok(Some(next)),
+            SnapshotMessage::Message(message) => {
+                self.follow(message)?;
+                Ok(None)
+            }
+        }
     }
 }
 

@@ -1,13 +1,19 @@
 // The questions that read a book alone.
 ghost use Rattle.std.specs.Prelude.{◌≡◌, ◌≤◌, ◌++◌, length, drop};
-ghost use Rattle.std.specs.Str.{bytes_eq};
 ghost use Rattle.book.specs.Books.{plain};
-ghost use Rattle.book.specs.Questions.{event_in, states_of, both_states, orders_of, rows_of, same_side, asked, fitting, counted, filled};
+ghost use Rattle.book.specs.Questions.{event_in, states_of, orders_of, rows_of, asked, fitting, counted, filled};
 
 use super::Book;
-use crate::rows::{BookRow, Stock};
+use crate::rows::BookRow;
 use codes::{EventCode, Refusal, ShortSell, Side, Trading};
 use wire::{OrderRow, Symbol};
+
+// What a question for rows asks for: the orders of a stock on one side.
+#[derive(Clone, Copy)]
+struct Asked {
+    symbol: Symbol,
+    side: Side,
+}
 
 impl<'a> Book<'a> {
     /// The event code, if one was told.
@@ -18,102 +24,62 @@ impl<'a> Book<'a> {
     }
 
     /// The trading state and the short-sell state of a stock.
+    #[tactic(auto, unfolding(crate::specs::Questions::states_of))]
     pub fn states(&self, symbol: Symbol) -> Result<(Option<Trading>, Option<ShortSell>), Refusal>
         ensures { result ≡ states_of (plain self.now) symbol }
     {
-        both_states(self.stock(symbol))
+        let stock = self.stock(symbol).ok_or(Refusal::NoStock)?;
+        Ok((stock.trading, stock.short))
     }
 
-    /// Writes the orders of a stock on one side, the smallest reference first, at the front of the rows, and answers how many they are.
+    /// Writes the orders of a stock on one side, the smallest reference first, at the front of the rows, and answers how
+    /// many they are. The rows are lent, since no answer may cost an allocation.
+    #[tactic(auto, unfolding(crate::specs::Questions::orders_of))]
     pub fn orders(&self, symbol: Symbol, side: Side, rows: &mut [BookRow]) -> Result<usize, Refusal>
         ensures answer { result ≡ counted (orders_of (plain self.now) symbol side (length rows.old)) }
         ensures rows { rows.new ≡ filled (orders_of (plain self.now) symbol side (length rows.old)) rows.old }
     {
-        if self.stock(symbol).is_none() {
-            return Err(Refusal::NoStock);
-        }
-        fill(self.orders.entries(), symbol, side, rows)
+        self.stock(symbol).ok_or(Refusal::NoStock)?;
+        Asked { symbol, side }.fill(self.orders.entries(), rows)
     }
 }
 
-// The two states of a stock, if there is one.
-fn both_states(stock: Option<Stock>) -> Result<(Option<Trading>, Option<ShortSell>), Refusal>
-    ensures { result ≡ both_states stock }
-{
-    match stock {
-        Some(stock) => Ok((stock.trading, stock.short)),
-        None => Err(Refusal::NoStock),
+impl Asked {
+    // Whether an order is of the stock and on the side.
+    fn takes(self, order: &OrderRow) -> bool
+        ensures { result ≡ asked self.symbol self.side order.now }
+    {
+        order.symbol == self.symbol && order.side == self.side
     }
-}
 
-// Writes the orders of the stock and the side at the front of the rows, if they fit.
-fn fill(
-    live: &[OrderRow],
-    symbol: Symbol,
-    side: Side,
-    rows: &mut [BookRow],
-) -> Result<usize, Refusal>
-    ensures answer { result ≡ counted (fitting (length rows.old) (rows_of symbol side live.now)) }
-    ensures rows { rows.new ≡ filled (fitting (length rows.old) (rows_of symbol side live.now)) rows.old }
-{
-    let needed = count(live, symbol, side);
-    if needed > rows.len() {
-        return Err(Refusal::TooFewRows(needed));
+    // How many of the orders are asked for.
+    fn count(self, live: &[OrderRow]) -> usize
+        ensures { result ≡ length (rows_of self.symbol self.side live.now) }
+    {
+        live.iter().filter(|&order| self.takes(order)).count()
     }
-    show(live, symbol, side, rows);
-    Ok(needed)
-}
 
-// Whether two symbols are the same bytes.
-fn same_symbol(a: Symbol, b: Symbol) -> bool
-    ensures { result ≡ bytes_eq a.bytes b.bytes }
-{
-    a == b
-}
-
-fn same_side(a: Side, b: Side) -> bool
-    ensures { result ≡ same_side a b }
-{
-    match a {
-        Side::Buy => b == Side::Buy,
-        Side::Sell => b == Side::Sell,
-    }
-}
-
-// Whether an order is of the stock and on the side.
-fn is_asked(order: OrderRow, symbol: Symbol, side: Side) -> bool
-    ensures { result ≡ asked symbol side order }
-{
-    same_symbol(order.symbol, symbol) && same_side(order.side, side)
-}
-
-// How many orders are of the stock and on the side.
-fn count(live: &[OrderRow], symbol: Symbol, side: Side) -> usize
-    ensures { result ≡ length (rows_of symbol side live.now) }
-{
-    let mut n = 0;
-    for order in live {
-        if is_asked(*order, symbol, side) {
-            n += 1;
+    // Writes the orders that are asked for at the front of the rows.
+    fn show(self, live: &[OrderRow], rows: &mut [BookRow])
+        requires { length (rows_of self.symbol self.side live.now) ≤ length rows.old }
+        ensures { rows.new ≡ rows_of self.symbol self.side live.now ++ drop (length (rows_of self.symbol self.side live.now)) rows.old }
+    {
+        // by the place of each: behind a `zip` with `iter_mut` nothing is known of the rows
+        for (n, &order) in live.iter().filter(|&order| self.takes(order)).enumerate() {
+            rows[n] = order.into();
         }
     }
-    n
-}
 
-// Writes the orders of the stock and the side at the front of the rows.
-fn show(live: &[OrderRow], symbol: Symbol, side: Side, rows: &mut [BookRow])
-    requires { length (rows_of symbol side live.now) ≤ length rows.old }
-    ensures { rows.new ≡ rows_of symbol side live.now ++ drop (length (rows_of symbol side live.now)) rows.old }
-{
-    let mut n = 0;
-    for order in live {
-        if is_asked(*order, symbol, side) {
-            rows[n] = BookRow {
-                reference: order.reference,
-                shares: order.shares,
-                price: order.price,
-            };
-            n += 1;
+    // Writes the orders that are asked for at the front of the rows, if they fit.
+    fn fill(self, live: &[OrderRow], rows: &mut [BookRow]) -> Result<usize, Refusal>
+        ensures answer { result ≡ counted (fitting (length rows.old) (rows_of self.symbol self.side live.now)) }
+        ensures rows { rows.new ≡ filled (fitting (length rows.old) (rows_of self.symbol self.side live.now)) rows.old }
+    {
+        let needed = self.count(live);
+        if needed > rows.len() {
+            return Err(Refusal::TooFewRows(needed));
         }
+        self.show(live, rows);
+        Ok(needed)
     }
 }

@@ -1,4 +1,4 @@
-use Rattle.known_results.proofs.Tested.{known_results}
+use Rattle.known_results.proofs.Computed.{known_results}
 use Rattle.known_results.proofs.known_results_stand.Goals as goal
 
 pub returns : goal.returns

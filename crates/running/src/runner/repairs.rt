@@ -2,12 +2,12 @@
 ghost use Rattle.std.specs.Prelude.{◌≡◌, ◌≤◌};
 ghost use Rattle.wire.specs.Numbers.{most32};
 ghost use Rattle.following.specs.Follower.{mended};
-ghost use Rattle.running.specs.Runners.{room_of, Ready, place_in, Within, Stays, mended_in};
+ghost use Rattle.running.specs.Runners.{room_of, place_in, mended_in, Missing, Fetched};
 
 use super::Runner;
-use crate::moves::{Reached, Repair};
+use crate::moves::{Reached, Repair, Wanted};
 use following::Ending;
-use source::Source;
+use source::{MessageBuffer, Source};
 
 impl<'a, 'b> Runner<'a, 'b> {
     /// Fetches the wanted message and runs it, again and again, until the book has all that was heard, a message stops it,
@@ -19,43 +19,64 @@ impl<'a, 'b> Runner<'a, 'b> {
         highest: u32,
         budget: u32,
     ) -> Repair
-        requires ready { Ready self.old }
-        requires within { Within reached }
         requires heard { highest ≤ most32 }
-        requires agrees { S.agrees source.old }
         ensures mended { mended_in self.new result ≡ mended (room_of self.old) (S.meaning source.old).held highest budget (place_in self.old reached) }
-        ensures within { Within result.reached }
-        ensures stays { Stays self.old self.new }
-        ensures agrees { S.agrees source.new }
+        ensures room { room_of self.new ≡ room_of self.old }
         ensures meaning { S.meaning source.new ≡ S.meaning source.old }
     {
+        // the contract speaks of `reached` as it came
         let mut reached = reached;
-        let mut left = budget;
+        // One buffer for all turns.
         let mut out = [0; 80];
-        let ending = loop {
-            let wanted = match reached {
-                Reached::Stopped { .. } => break Ending::Red,
-                Reached::NoBook => break Ending::NotHeld,
-                Reached::Wanting(wanted) => wanted,
-            };
-            if wanted > highest {
-                break Ending::Green;
-            }
-            if left == 0 {
-                break Ending::Budget;
-            }
-            match source.fetch(wanted, &mut out) {
-                None => break Ending::NotHeld,
-                Some(length) => {
-                    reached = self.run_wanted(wanted, &out[0..length]);
-                    left -= 1;
+        // The turns are counted, since a repair tells how many messages it fetched.
+        for fetched in 0..budget {
+            match self.fetch(reached, source, highest, &mut out) {
+                Ok(next) => reached = next,
+                Err(ending) => {
+                    return Repair {
+                        reached,
+                        fetched,
+                        ending,
+                    };
                 }
             }
-        };
+        }
         Repair {
             reached,
-            fetched: budget - left,
-            ending,
+            fetched: budget,
+            ending: missing(reached, highest).err().unwrap_or(Ending::Budget),
         }
+    }
+
+    // Fetches the message that is missing and runs it, or tells how the repair ends.
+    fn fetch<S: Source>(
+        &mut self,
+        reached: Reached,
+        source: &mut S,
+        highest: u32,
+        out: &mut MessageBuffer,
+    ) -> Result<Reached, Ending>
+        requires heard { highest ≤ most32 }
+        ensures fetched { Fetched (room_of self.old) (S.meaning source.old).held highest (place_in self.old reached) reached self.new result }
+        ensures room { room_of self.new ≡ room_of self.old }
+        ensures meaning { S.meaning source.new ≡ S.meaning source.old }
+    {
+        let wanted = missing(reached, highest)?;
+        let length = source.fetch(wanted.number, out).ok_or(Ending::NotHeld)?;
+        Ok(self.run_wanted(wanted.number, &out[..length]))
+    }
+}
+
+// The wanted number, where it was heard, or how a repair ends.
+// `reached` changes at each turn and `highest` at none, so that a struct of both would be made anew each time.
+#[tactic(auto, unfolding(following::specs::Follower::mended))]
+fn missing(reached: Reached, highest: u32) -> Result<Wanted, Ending>
+    ensures { Missing highest reached result }
+{
+    match reached {
+        Ok(Some(wanted)) if wanted.number <= highest => Ok(wanted),
+        Ok(Some(_)) => Err(Ending::Green),
+        Ok(None) => Err(Ending::NotHeld),
+        Err(_) => Err(Ending::Red),
     }
 }

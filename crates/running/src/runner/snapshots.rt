@@ -1,18 +1,17 @@
 // A snapshot, which builds the book.
-ghost use Rattle.std.specs.Prelude.{◌≡◌, ◌≤◌};
+ghost use Rattle.std.specs.Prelude.{◌≡◌};
 ghost use Rattle.wire.specs.Answers.{through};
-ghost use Rattle.wire.specs.Numbers.{most32};
-ghost use Rattle.wire.specs.declared.session.Session.{Session};
+ghost use Rattle.wire.specs.Names.{Session};
 ghost use Rattle.session.specs.Carried.{still_carried};
 ghost use Rattle.book.specs.Books.{plain, slots};
 ghost use Rattle.book.specs.Plain.{empty};
 ghost use Rattle.book.specs.Runs.{run_there};
 ghost use Rattle.following.specs.States.{held_from};
 ghost use Rattle.following.specs.Follower.{completed, run_held};
-ghost use Rattle.running.specs.Runners.{held_in, book_in, room_of, Ready, place_in, Within, Stays, snapshot_with};
+ghost use Rattle.running.specs.Runners.{held_in, book_in, room_of, Leads, snapshot_with};
 
 use super::Runner;
-use crate::moves::Reached;
+use crate::moves::{Reached, Wanted};
 use book::Book;
 use codes::Refusal;
 use session::Carried;
@@ -20,23 +19,18 @@ use session::Carried;
 impl<'a, 'b> Runner<'a, 'b> {
     /// Builds the book of a snapshot's messages, and answers the number that its End tells. What is held stays.
     pub fn load(&mut self, messages: Carried<'_>) -> Result<u32, Refusal>
-        requires ready { Ready self.old }
         ensures loaded { (session : Session) → through (snapshot_with session (book_in self.new)) result ≡ completed session (run_there (room_of self.old).for_book (still_carried messages.entry) empty) }
         ensures held { held_in self.new ≡ held_in self.old }
-        ensures stays { Stays self.old self.new }
+        ensures room { room_of self.new ≡ room_of self.old }
     {
         load_book(&mut *self.book, messages)
     }
 
     /// Lets go of the held messages below the number of a snapshot's End, and runs those from it on.
-    pub fn complete(&mut self, next: u32) -> Reached
-        requires ready { Ready self.old }
-        requires within { next ≤ most32 }
-        ensures place { place_in self.new result ≡ run_held (room_of self.old) (book_in self.old) next (held_from next (held_in self.old)) }
-        ensures within { Within result }
-        ensures stays { Stays self.old self.new }
+    pub fn complete(&mut self, next: Wanted) -> Reached
+        ensures { Leads self.old self.new result (run_held (room_of self.old) (book_in self.old) next.number (held_from next.number (held_in self.old))) }
     {
-        self.held.remove_below(next);
+        self.held.remove_below(next.number);
         self.run_held(next)
     }
 }
@@ -47,8 +41,8 @@ fn load_book(book: &mut Book<'_>, messages: Carried<'_>) -> Result<u32, Refusal>
     ensures slots { slots book.new ≡ slots book.old }
 {
     book.clear();
-    let mut rest = messages;
-    while let Some(message) = rest.next() {
+    for message in messages {
+        // One `match` is shorter than `map_err`, `?` and an `if let` for the End.
         match book.run_snapshot(message) {
             Ok(None) => {}
             Ok(Some(next)) => return Ok(next),

@@ -9,7 +9,7 @@ use crate::bytes::MOST;
 const MOST_PRICE: u64 = 1_000_000_000_000_000;
 
 impl Order {
-    // The order of a row, where the row is within the limits.
+    // The order of a row, where the row is within the limits. An `Option` and no `TryFrom`, since the cause is the caller's.
     pub fn new(row: OrderRow) -> Option<Order>
         ensures { option_map row_of result ≡ checked row }
     {

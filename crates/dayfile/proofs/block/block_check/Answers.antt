@@ -1,4 +1,4 @@
-use Rattle.std.proofs.Common.{◌+◌, ◌-◌, ◌*◌, ◌<◌, get_or, take, drop, sym, ap, ◌∙◌, arith}
+use Rattle.std.proofs.Common.{◌+◌, ◌*◌, ◌<◌, get_or, take, drop, sym, ap, ◌∙◌, arith}
 use Rattle.dayfile.specs.Blocks.{weighted}
 use Rattle.dayfile.proofs.Layouts.{weighted_more, term_most, covered_most, check_is}
 use Rattle.dayfile.proofs.block.block_check.Goals as goal
@@ -18,8 +18,8 @@ loop-i-preserved c =
     let i = c.loop-i.i in
     let byte : get_or b i 0 < 256 = omega (arith, c.type_inv.block i) in
     let t = term_most b c.min.result i c.from.result c.min.ensures c.loop-i-test.true c.from.ensures byte in
-    let w = weighted_more (take (c.min.result - 0) b) i c.loop-i.sum c.loop-i-test.true in
-    let f = ap (λ x. c.loop-i.sum + (i + 1) * x + weighted (i + 1 + 1) (drop (i + 1) (take (c.min.result - 0) b))) c.from.ensures in
+    let w = weighted_more (take c.min.result b) i c.loop-i.sum c.loop-i-test.true in
+    let f = ap (λ x. c.loop-i.sum + (i + 1) * x + weighted (i + 1 + 1) (drop (i + 1) (take c.min.result b))) c.from.ensures in
     (f ∙ sym w ∙ c.loop-i.invariant.0, omega arith)
 
 pub returns : goal.returns

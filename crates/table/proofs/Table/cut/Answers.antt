@@ -1,15 +1,32 @@
-use Rattle.std.proofs.Common.{◌≡◌, ◌-◌, true, List, ◌++◌, length, take, drop, sym, ap, ◌∙◌, subst, arith}
+use Rattle.std.proofs.Common.{ap, ◌∙◌, arith}
 use Rattle.std.proofs.lemmas.List.{length-take-le}
 use Rattle.table.specs.Rows.{ordered}
-use Rattle.table.specs.Tables.{all_slots, entries, room}
-use Rattle.table.proofs.Laws.{ordered_cut}
-use Rattle.table.proofs.Shifts.{closed, closed_length}
+use Rattle.table.specs.Tables.{entries}
+use Rattle.table.proofs.Laws.{ordered_cut, ordered_front}
+use Rattle.table.proofs.Shifts.{closed}
 use Rattle.table.proofs.Table.cut.Goals as goal
+
+pub invariant_of-self : goal.invariant_of-self
+invariant_of-self g c =
+    let n = length-take-le c.args.self.now.used c.args.self.now.slots.now c.args.self.now.fits in
+    record {
+      fits = omega (arith, n, c.args.self.now.fits, c.requires.forward, c.requires.within);
+      kept = ordered_front g.T.Row.key g.T.Key.Ord.cmp c.args.i c.args.self.now.used c.args.self.now.slots.now (omega (arith, n, c.requires.forward, c.requires.within)) c.args.self.now.kept;
+    }
+
+pub invariant_of-self-2 : goal.invariant_of-self-2
+invariant_of-self-2 g c =
+    let n = length-take-le c.args.self.now.used c.args.self.now.slots.now c.args.self.now.fits in
+    let is = closed c.args.self.now.slots.now c.args.self.now.used c.copy_within.new.self c.args.i c.args.j c.requires.forward (omega (arith, n, c.requires.within)) c.args.self.now.fits c.copy_within.ensures.after in
+    record {
+      fits = omega (arith, n, c.args.self.now.fits, c.requires.forward, c.copy_within.ensures.len);
+      kept = ap (ordered g.T.Row.key g.T.Key.Ord.cmp) is ∙ ordered_cut g.T.Row.key g.T.Key.Ord.cmp c.args.i c.args.j (entries c.args.self.now) c.requires.forward c.args.self.now.kept;
+    }
 
 pub returns : goal.returns
 returns g c =
-    let xs : List g.row.T.Denot = entries c.args.self.now in
-    let n : length xs ≡ c.args.self.now.used = length-take-le c.args.self.now.used (all_slots c.args.self.now) (omega arith) in
-    let k : room c.shift_out.new.self ≡ room c.args.self.now = ap length c.shift_out.ensures.slots ∙ closed_length (all_slots c.args.self.now) c.args.self.now.used c.args.i c.args.j (omega arith) (omega arith) (omega arith) in
-    let is : entries c.shift_out.new.self ≡ take c.args.i xs ++ drop c.args.j xs = ap (λ m. take m (all_slots c.shift_out.new.self)) c.shift_out.ensures.used ∙ ap (take (c.args.self.now.used - (c.args.j - c.args.i))) c.shift_out.ensures.slots ∙ closed (all_slots c.args.self.now) c.args.self.now.used c.args.i c.args.j (omega arith) (omega arith) (omega arith) in
-    record { entries = is; room = k; kept = (omega (arith, k, c.shift_out.ensures.used), subst (λ ys. ordered g.T.Row.key g.T.Row.order ys ≡ true) (sym is) (ordered_cut g.T.Row.key g.T.Row.order c.args.i c.args.j xs (omega arith) c.requires.kept.1)) }
+    let n = length-take-le c.args.self.now.used c.args.self.now.slots.now c.args.self.now.fits in
+    record {
+      entries = closed c.args.self.now.slots.now c.args.self.now.used c.copy_within.new.self c.args.i c.args.j c.requires.forward (omega (arith, n, c.requires.within)) c.args.self.now.fits c.copy_within.ensures.after;
+      room = c.copy_within.ensures.len;
+    }

@@ -1,15 +1,31 @@
-use Rattle.std.proofs.Common.{◌≡◌, ◌+◌, length, take, ap, ◌∙◌, arith}
-use Rattle.std.proofs.lemmas.List.{length-take-le}
-use Rattle.table.specs.Tables.{all_slots, entries, room}
-use Rattle.table.proofs.Shifts.{opened, opened_length}
+use Rattle.std.proofs.Common.{ap, ◌∙◌, arith}
+use Rattle.std.proofs.lemmas.List.{length-set, length-take-le}
+use Rattle.table.specs.Rows.{ordered}
+use Rattle.table.proofs.Laws.{ordered_front}
+use Rattle.table.proofs.Shifts.{opened}
 use Rattle.table.proofs.Table.insert.Goals as goal
+
+pub invariant_of-self : goal.invariant_of-self
+invariant_of-self g c =
+    let n = length-take-le c.args.self.now.used c.args.self.now.slots.now c.args.self.now.fits in
+    record {
+      fits = omega (arith, n, c.args.self.now.fits, c.requires.within);
+      kept = ordered_front g.T.Row.key g.T.Key.Ord.cmp c.args.i c.args.self.now.used c.args.self.now.slots.now (omega (arith, n, c.requires.within)) c.args.self.now.kept;
+    }
+
+pub invariant_of-self-3 : goal.invariant_of-self-3
+invariant_of-self-3 g c =
+    let n = length-take-le c.args.self.now.used c.args.self.now.slots.now c.args.self.now.fits in
+    let is = opened c.args.self.now.slots.now c.args.self.now.used c.copy_within.new.self c.args.i c.args.e (omega (arith, n, c.requires.within)) c.requires.free c.copy_within.ensures.after in
+    record {
+      fits = omega (arith, c.requires.free, c.copy_within.ensures.len, length-set c.copy_within.new.self c.args.i c.args.e);
+      kept = ap (ordered g.T.Row.key g.T.Key.Ord.cmp) is ∙ c.requires.orderly;
+    }
 
 pub returns : goal.returns
 returns g c =
-    let n : length (entries c.args.self.now) ≡ c.args.self.now.used = length-take-le c.args.self.now.used (all_slots c.args.self.now) (omega arith) in
-    let k : room c.shift_in.new.self ≡ room c.args.self.now = ap length c.shift_in.ensures.slots ∙ opened_length (all_slots c.args.self.now) c.args.self.now.used c.args.i c.args.e (omega arith) (omega arith) in
+    let n = length-take-le c.args.self.now.used c.args.self.now.slots.now c.args.self.now.fits in
     record {
-      entries = ap (λ m. take m (all_slots c.shift_in.new.self)) c.shift_in.ensures.used ∙ ap (take (c.args.self.now.used + 1)) c.shift_in.ensures.slots ∙ opened (all_slots c.args.self.now) c.args.self.now.used c.args.i c.args.e (omega arith) (omega arith);
-      room = k;
-      fits = omega (arith, k, c.shift_in.ensures.used);
+      entries = opened c.args.self.now.slots.now c.args.self.now.used c.copy_within.new.self c.args.i c.args.e (omega (arith, n, c.requires.within)) c.requires.free c.copy_within.ensures.after;
+      room = length-set c.copy_within.new.self c.args.i c.args.e ∙ c.copy_within.ensures.len;
     }

@@ -7,7 +7,6 @@ returns g c =
     record {
       outcome = d.outcome;
       rows = d.rows;
-      agrees = d.agrees;
       stays = d.stays;
       law = kept _ _ _ (record { state = d.outcome.state; answer = d.outcome.answer; rows = d.rows });
     }

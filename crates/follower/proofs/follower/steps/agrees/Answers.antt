@@ -1,9 +1,6 @@
-use Rattle.std.proofs.Common.{◌∙◌}
-use Rattle.follower.proofs.Outcomes.{agrees_none, agrees_some}
+use Rattle.std.proofs.Common.{rules}
+use Rattle.follower.proofs.Outcomes.{agrees_by}
 use Rattle.follower.proofs.follower.steps.agrees.Goals as goal
 
-pub returns-in-None : goal.returns-in-None
-returns-in-None c = agrees_none c.args.known c.args.session c.in-None.is
-
-pub returns-in-Some : goal.returns-in-Some
-returns-in-Some c = c.same_session.ensures ∙ agrees_some c.args.known c.in-Some.known c.args.session c.in-Some.is
+pub returns : goal.returns
+returns c = agrees_by c.args.known c.args.session c.is_none_or.result c.is_none_or.ensures (λ known post. search rules)

@@ -1,100 +1,58 @@
-use Rattle.std.proofs.Common.{◌≡◌, ◌-◌, ◌<◌, ◌≤◌, take, sym, ap, ◌∙◌, subst, arith, rules}
-use Rattle.following.specs.Follower.{run_wanted}
-use Rattle.following.specs.declared.answers.Ending.TheVariants as ending
-use Rattle.running.specs.declared.moves.Reached.TheVariants as reached
-use Rattle.running.specs.Runners.{room_of, book_in, held_in, Within, Stays}
-use Rattle.running.proofs.Mending.{fetched, missed, at_stopped, at_bookless, at_green, at_budget, at_missing, ended, further}
+use Rattle.std.proofs.Common.{◌≡◌, ◌+◌, ◌-◌, suc, Ok, Err, refl, sym, ap, ◌∙◌, arith}
+use Rattle.std.specs.Option.{unwrap_or}
+use Rattle.source.specs.Meanings.{Meaning}
+use Rattle.following.specs.States.{Room}
+use Rattle.following.specs.Follower.{Place, ends, mended}
+use Rattle.following.specs.declared.answers.Ending.TheVariants.{Budget}
+use Rattle.running.specs.Runners.{room_of, place_in, mended_in}
+use Rattle.running.proofs.Mending.{added_to, added_none, ended, further, fetched_at, found_spent}
 use Rattle.running.proofs.runner.Runner.mend.Goals as goal
-use Rattle.running.proofs.runner.Runner.mend.Goals.{
-  in-Stopped,
-  in-NoBook,
-  in-Wanting+then-wanted-highest,
-  in-Wanting+else-wanted-highest+then-left-eq0,
-  in-Wanting+else-wanted-highest+else-left-eq0+in-None,
-}
 
-pub loop-reached-preserved : goal.loop-reached-preserved
-loop-reached-preserved g c =
-    let room = room_of c.args.self.now in
-    let i = c.loop-reached.invariant in
-    let f = c.in-Some.ensures in
-    let r = c.run_wanted-reached.ensures in
-    let self = c.loop-reached.self in
-    let wanted = c.in-Wanting.wanted in
-    let out = c.fetch.new.out in
-    let more : 0 < c.loop-reached.left = omega arith in
-    let heard : wanted ≤ c.args.highest = omega arith in
-    let z : c.in-Some.length - 0 ≡ c.in-Some.length = omega arith in
-    let held = ap (λ m. m.held wanted) (sym i.1) ∙ fetched _ c.in-Some.length c.loop-reached.out out f.answers f.writes in (
-      f.agrees,
-      f.stays ∙ i.1,
-      r.stays.ready,
-      r.within,
-      r.stays.room ∙ i.4,
-      omega arith,
-      search rules,
-      further room _ c.args.highest c.args.budget c.loop-reached.left _ self c.loop-reached.reached i.7 wanted (take c.in-Some.length out) _ c.in-Wanting.is i.5 more heard held
-          (r.place
-          ∙ ap (λ n. run_wanted (room_of self) (record { book = book_in self; wanted = wanted }) (take n out) (held_in self)) z
-          ∙ ap (λ x. run_wanted x (record { book = book_in self; wanted = wanted }) (take c.in-Some.length out) (held_in self)) i.4),
+pub loop-fetched-init : goal.loop-fetched-init
+loop-fetched-init g c =
+    let z : c.args.budget - 0 ≡ c.args.budget = omega arith in
+    (refl, refl, rw z (added_none (mended (room_of c.args.self.now) (g.S.Source.meaning c.args.source.now).held c.args.highest c.args.budget (place_in c.args.self.now c.args.reached))))
+
+pub loop-fetched-preserved : goal.loop-fetched-preserved
+loop-fetched-preserved g c =
+    let i = c.loop-fetched.invariant in
+    let f = c.in-Ok.ensures in
+    let room : Room = room_of c.args.self.now in
+    let source : Meaning = g.S.Source.meaning c.args.source.now in
+    let n = c.loop-fetched.fetched in
+    let left = c.args.budget - (n + 1) in
+    let b : c.args.budget - n ≡ suc left = omega arith in
+    let p : Place = place_in c.loop-fetched.self c.loop-fetched.reached in (
+      f.meaning ∙ i.0,
+      f.room ∙ i.1,
+      further _ n _ (i.2 ∙ ap (λ k. added_to n (mended room source.held c.args.highest k p)) b) _
+          (fetched_at _ room _ source c.args.highest p c.loop-fetched.reached c.fetch.new.self (Ok c.in-Ok.next) i.1 i.0 f.fetched left),
     )
 
-pub returns : goal.returns
-returns g c =
-    let self = c.loop-reached.self in
-    let room = room_of c.args.self.now in
-    let held = (g.S.Source.meaning c.args.source.now).held in
-    let k = c.args.highest in
-    let left = c.loop-reached.left in
-    let i = c.loop-reached.invariant in
-    let done = ended room held k c.args.budget left _ self c.loop-reached.reached i.7 c.match-reached.reached in
-    let within : c.match-reached.reached ≡ c.loop-reached.reached → Within c.match-reached.reached = λ e. subst Within (sym e) i.3 in
-    let stays : Stays c.args.self.now self = record { room = i.4; ready = i.2 } in
-    elim c.match-reached.branch [
-      | in-Stopped w ↦
-          record {
-            mended = done (reached.Stopped w.in-Stopped.number w.in-Stopped.cause) ending.Red c.match-reached.ending w.in-Stopped.is (at_stopped room held k left w.in-Stopped.number w.in-Stopped.cause) w.reached-is w.ending-is;
-            within = within w.reached-is;
-            stays = stays;
-            agrees = subst g.S.Source.agrees (sym w.source-is) i.0;
-            meaning = ap g.S.Source.meaning w.source-is ∙ i.1;
-          }
-      | in-NoBook w ↦
-          record {
-            mended = done reached.NoBook ending.NotHeld c.match-reached.ending w.in-NoBook.is (at_bookless room held k left (held_in self)) w.reached-is w.ending-is;
-            within = within w.reached-is;
-            stays = stays;
-            agrees = subst g.S.Source.agrees (sym w.source-is) i.0;
-            meaning = ap g.S.Source.meaning w.source-is ∙ i.1;
-          }
-      | in-Wanting+then-wanted-highest w ↦
-          let at = w.reached-is ∙ sym w.in-Wanting.is in
-          record {
-            mended = done (reached.Wanting w.in-Wanting.wanted) ending.Green c.match-reached.ending w.in-Wanting.is (at_green room held k (record { book = book_in self; wanted = w.in-Wanting.wanted }) (held_in self) left w.if-wanted-highest.true) at w.ending-is;
-            within = within at;
-            stays = stays;
-            agrees = subst g.S.Source.agrees (sym w.source-is) i.0;
-            meaning = ap g.S.Source.meaning w.source-is ∙ i.1;
-          }
-      | in-Wanting+else-wanted-highest+then-left-eq0 w ↦
-          let at = w.reached-is ∙ sym w.in-Wanting.is in
-          record {
-            mended = done (reached.Wanting w.in-Wanting.wanted) ending.Budget c.match-reached.ending w.in-Wanting.is (at_budget room held k (record { book = book_in self; wanted = w.in-Wanting.wanted }) (held_in self) left w.if-left-eq0.true w.if-wanted-highest.false) at w.ending-is;
-            within = within at;
-            stays = stays;
-            agrees = subst g.S.Source.agrees (sym w.source-is) i.0;
-            meaning = ap g.S.Source.meaning w.source-is ∙ i.1;
-          }
-      | in-Wanting+else-wanted-highest+else-left-eq0+in-None w ↦
-          let at = w.reached-is ∙ sym w.in-Wanting.is in
-          let f = w.in-None.ensures in
-          let more : 0 < left = omega (arith, w.if-left-eq0.false) in
-          let lacks = ap (λ m. m.held w.in-Wanting.wanted) (sym i.1) ∙ missed _ f.answers in
-          record {
-            mended = done (reached.Wanting w.in-Wanting.wanted) ending.NotHeld c.match-reached.ending w.in-Wanting.is (at_missing room held k (record { book = book_in self; wanted = w.in-Wanting.wanted }) (held_in self) left more w.if-wanted-highest.false lacks) at w.ending-is;
-            within = within at;
-            stays = stays;
-            agrees = subst g.S.Source.agrees (sym w.source-is) f.agrees;
-            meaning = ap g.S.Source.meaning w.source-is ∙ f.stays ∙ i.1;
-          }
-    ]
+pub returns-in-Err-clause-mended : goal.returns-in-Err-clause-mended
+returns-in-Err-clause-mended g c =
+    let i = c.loop-fetched.invariant in
+    let f = c.in-Err.ensures in
+    let room : Room = room_of c.args.self.now in
+    let source : Meaning = g.S.Source.meaning c.args.source.now in
+    let n = c.loop-fetched.fetched in
+    let left = c.args.budget - (n + 1) in
+    let b : c.args.budget - n ≡ suc left = omega arith in
+    let p : Place = place_in c.loop-fetched.self c.loop-fetched.reached in
+    ended _ n _ (i.2 ∙ ap (λ k. added_to n (mended room source.held c.args.highest k p)) b) _ c.in-Err.ending
+    (fetched_at _ room _ source c.args.highest p c.loop-fetched.reached c.fetch.new.self (Err c.in-Err.ending) i.1 i.0 f.fetched left)
+
+pub returns-clause-mended : goal.returns-clause-mended
+returns-clause-mended g c =
+    let i = c.loop-fetched.invariant in
+    let room : Room = room_of c.args.self.now in
+    let source : Meaning = g.S.Source.meaning c.args.source.now in
+    let self = c.loop-fetched.self in
+    let n = c.loop-fetched.fetched in
+    let all : n ≡ c.args.budget = omega arith in
+    let none : c.args.budget - n ≡ 0 = omega arith in
+    let p : Place = place_in self c.loop-fetched.reached in
+    let how = c.unwrap_or.ensures ∙ ap (λ o. unwrap_or o Budget) c.err.ensures.value in
+    ap (λ k. mended_in self (record { reached = c.loop-fetched.reached; fetched = k; ending = c.unwrap_or.result })) (sym all)
+    ∙ ended _ n _ (i.2 ∙ ap (λ k. added_to n (mended room source.held c.args.highest k p)) none) p c.unwrap_or.result
+    (found_spent room source.held c.args.highest self c.loop-fetched.reached c.missing.result c.missing.ensures ∙ ap (ends p) (sym how))

@@ -1,4 +1,4 @@
-use Rattle.std.proofs.Common.{◌≡◌, Some, None, Ok, Err, sym, refl, ap, ◌∙◌}
+use Rattle.std.proofs.Common.{◌≡◌, Some, None, Ok, Err, sym, ap, ◌∙◌}
 use Rattle.session.specs.Carried.{still_carried}
 use Rattle.book.specs.Books.{plain, slots}
 use Rattle.book.specs.Plain.{empty, ran_there}
@@ -9,7 +9,13 @@ use Rattle.running.proofs.runner.snapshots.load_book.Goals as goal
 
 pub loop-message-init : goal.loop-message-init
 loop-message-init c =
-    (tt, tt, refl, ap (run_there (slots c.clear.new.self) (still_carried c.args.messages)) (sym c.clear.ensures.plain))
+    let s = c.clear.ensures in (
+      tt,
+      tt,
+      s.slots,
+      ap (λ m. run_there (slots c.args.book.now) (still_carried m) empty) (sym c.into_iter-message-iterator.ensures.into_iter_gives)
+          ∙ ap (run_there (slots c.args.book.now) (still_carried c.into_iter-message-iterator.result)) (sym s.plain),
+    )
 
 pub loop-message-preserved : goal.loop-message-preserved
 loop-message-preserved c =
@@ -22,55 +28,40 @@ loop-message-preserved c =
       tt,
       f.slots ∙ i.2,
       i.3
-          ∙ one_there (slots c.clear.new.self) book _ _ _ (Ok (None, plain c.run_snapshot.new.self)) c.in-Some.ensures.steps
+          ∙ one_there (slots c.args.book.now) book _ _ _ (Ok (None, plain c.run_snapshot.new.self)) c.in-Some.ensures.steps
           (e ∙ ap (λ s. ran_there s book c.in-Some.message.now) i.2),
     )
 
-pub returns-in-Ok-Some : goal.returns-in-Ok-Some
-returns-in-Ok-Some c =
+pub returns-in-Ok-Some-clause-loaded : goal.returns-in-Ok-Some-clause-loaded
+returns-in-Ok-Some-clause-loaded c =
     let i = c.loop-message.invariant in
     let f = c.in-Ok-Some.ensures in
     let book = plain c.loop-message.book in
     let a = f.answer in
     let e : Ok (Some c.in-Ok-Some.next, plain c.run_snapshot.new.self) ≡ ran_there (slots c.loop-message.book) book c.in-Some.message.now = cc in
-    let cleared = c.clear.ensures.slots in
-    record {
-      loaded = λ session.
-          sym (ap (completed session)
-          (ap (λ s. run_there s (still_carried c.args.messages) empty) (sym cleared)
-          ∙ i.3
-          ∙ one_there (slots c.clear.new.self) book _ _ (still_carried c.next.new.self) (Ok (Some c.in-Ok-Some.next, plain c.run_snapshot.new.self))
-          c.in-Some.ensures.steps
-          (e ∙ ap (λ s. ran_there s book c.in-Some.message.now) i.2)));
-      slots = f.slots ∙ i.2 ∙ cleared;
-    }
+    λ session.
+    sym (ap (completed session)
+    (i.3
+    ∙ one_there (slots c.args.book.now) book _ _ (still_carried c.next.new.self) (Ok (Some c.in-Ok-Some.next, plain c.run_snapshot.new.self))
+    c.in-Some.ensures.steps
+    (e ∙ ap (λ s. ran_there s book c.in-Some.message.now) i.2)))
 
-pub returns-in-Err : goal.returns-in-Err
-returns-in-Err c =
+pub returns-in-Err-clause-loaded : goal.returns-in-Err-clause-loaded
+returns-in-Err-clause-loaded c =
     let i = c.loop-message.invariant in
     let f = c.in-Err.ensures in
     let book = plain c.loop-message.book in
-    let cleared = c.clear.ensures.slots in
-    record {
-      loaded = λ session.
-          sym (ap (completed session)
-          (ap (λ s. run_there s (still_carried c.args.messages) empty) (sym cleared)
-          ∙ i.3
-          ∙ one_there (slots c.clear.new.self) book _ _ (still_carried c.next.new.self) (Err c.in-Err.cause) c.in-Some.ensures.steps
-          (f.answer ∙ ap (λ s. ran_there s book c.in-Some.message.now) i.2)));
-      slots = f.slots ∙ i.2 ∙ cleared;
-    }
+    λ session.
+    sym (ap (completed session)
+    (i.3
+    ∙ one_there (slots c.args.book.now) book _ _ (still_carried c.next.new.self) (Err c.in-Err.cause) c.in-Some.ensures.steps
+    (f.answer ∙ ap (λ s. ran_there s book c.in-Some.message.now) i.2)))
 
-pub returns : goal.returns
+pub returns-clause-loaded : goal.returns-clause-loaded
 unfolding run_there
-returns c =
+returns-clause-loaded c =
     let i = c.loop-message.invariant in
-    let cleared = c.clear.ensures.slots in
-    record {
-      loaded = λ session.
-          sym (ap (completed session)
-          (ap (λ s. run_there s (still_carried c.args.messages) empty) (sym cleared)
-          ∙ i.3
-          ∙ ap (λ xs. run_there (slots c.clear.new.self) xs (plain c.loop-message.book)) c.in_default.ensures.steps.0));
-      slots = i.2 ∙ cleared;
-    }
+    λ session.
+    sym (ap (completed session)
+    (i.3
+    ∙ ap (λ xs. run_there (slots c.args.book.now) xs (plain c.loop-message.book)) c.in-None.ensures.steps.0))

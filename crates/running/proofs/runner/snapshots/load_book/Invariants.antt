@@ -7,6 +7,6 @@ use Rattle.running.proofs.runner.snapshots.load_book.Given as goal
 
 abbrev pub invariant-loop-message : goal.invariant-loop-message
 invariant-loop-message l =
-    (goal.iterator-loop-message).can_next l.rest × (goal.iterator-loop-message).is_finite l.rest
-    × (slots l.book ≡ slots l.initial.book)
-    × (run_there (slots l.initial.book) (still_carried l.messages) empty ≡ run_there (slots l.initial.book) (still_carried l.rest) (plain l.book))
+    (goal.iterator-loop-message).can_next l.message-iterator × (goal.iterator-loop-message).is_finite l.message-iterator
+    × (slots l.book ≡ slots l.fn.book)
+    × (run_there (slots l.fn.book) (still_carried l.fn.messages) empty ≡ run_there (slots l.fn.book) (still_carried l.message-iterator) (plain l.book))

@@ -1,8 +1,0 @@
-use Rattle.std.proofs.Common.{◌≡◌, ◌++◌, length, take, drop}
-use Rattle.book.specs.Questions.{rows_of}
-use Rattle.book.proofs.book.questions.show.Given as goal
-
-abbrev pub invariant-loop-order : goal.invariant-loop-order
-invariant-loop-order l =
-    (l.n ≡ length (rows_of l.symbol l.side (take l.order-index l.live)))
-    × (l.rows ≡ rows_of l.symbol l.side (take l.order-index l.live) ++ drop l.n l.initial.rows)
