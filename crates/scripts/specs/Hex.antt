@@ -1,5 +1,6 @@
 -- Bytes written as pairs of hexadecimal digits.
-use Rattle.std.specs.Prelude.{ℕ, ◌+◌, ◌-◌, ◌*◌, cond, ◌&&◌, List, [], ◌∷◌, Some, None, Option, nat_le}
+use Rattle.std.specs.Prelude.{ℕ, ◌+◌, ◌-◌, ◌*◌, ◌/◌, ◌%◌, false, cond, ◌&&◌, List, [], ◌∷◌, Some, None, Option, nat_le}
+use Rattle.std.specs.Fmt.{digit_glyph}
 use Rattle.std.specs.Option.{option_map}
 
 -- 0 to 9, a to f, A to F
@@ -17,3 +18,8 @@ unfoldable pub bytes_of : List ℕ → Option (List ℕ)
 bytes_of [] = Some []
 bytes_of (c ∷ []) = None
 bytes_of (c ∷ d ∷ rest) = elim (pair_of (digit_of c) (digit_of d)) [ None ↦ None | Some b ↦ option_map (λ bs. b ∷ bs) (bytes_of rest) ]
+
+-- each byte as two digits, a to f for ten to fifteen
+unfoldable pub digits_of : List ℕ → List ℕ
+digits_of [] = []
+digits_of (b ∷ bs) = digit_glyph false (b / 16) ∷ digit_glyph false (b % 16) ∷ digits_of bs

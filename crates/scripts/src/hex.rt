@@ -2,7 +2,8 @@
 // repository's own definition of digits.
 ghost use Rattle.std.specs.Prelude.{◌≡◌, IfOk, vec_items};
 ghost use Rattle.std.specs.Option.{option_map};
-ghost use Rattle.scripts.specs.Hex.{digit_of, pair_of, bytes_of};
+ghost use Rattle.std.specs.String.{string_bytes};
+ghost use Rattle.scripts.specs.Hex.{digit_of, pair_of, bytes_of, digits_of};
 
 use std::alloc::{AllocError, Global};
 
@@ -42,7 +43,9 @@ pub fn decode(heap: Global, text: &[u8]) -> Result<Option<Vec<u8>>, AllocError>
 }
 
 // Bytes in pairs of hexadecimal digits.
-pub fn encode(heap: Global, bytes: &[u8]) -> Result<String, AllocError> {
+pub fn encode(heap: Global, bytes: &[u8]) -> Result<String, AllocError>
+    ensures { IfOk result (λ s. string_bytes s ≡ digits_of bytes.now) }
+{
     let mut digits = String::new(heap);
     for b in bytes {
         write!(digits, "{b:02x}")?;
