@@ -14,25 +14,6 @@ mod tests {
     // A message, its answer, and then the orders to buy and to sell of 2531.
     type Step<'a> = (&'a [u8], Result<(), Cause>, Rows<'a>, Rows<'a>);
 
-    // The orders that the book tells, where they lie in the lent rows; those behind them stay as they were.
-    fn rows<'a>(
-        rt: &impl Abort,
-        book: &Book<'_>,
-        symbol: Symbol,
-        side: Side,
-        lent: &'a mut [BookRow],
-    ) -> Rows<'a> {
-        let answer = book.orders(symbol, side, lent);
-        let (told, rest) = lent
-            .split_at_checked(answer.unwrap_or(0))
-            .expect(rt, "more rows than are lent");
-        assert!(rt;
-            rest.iter().all(|row| *row == lent::row(0)),
-            "a row too many"
-        );
-        answer.map(|_| told)
-    }
-
     // Runs the steps on one book with slots for two stocks and three orders.
     fn walk(rt: &impl Abort, steps: &[Step<'_>]) -> Result<(), Fail> {
         let symbol = Symbol::read(b"2531  ").ok_or("no symbol")?;
@@ -43,8 +24,16 @@ mod tests {
             assert!(rt; book.run(message) == *answer, "at step {at}");
             for (side, expected) in [(Side::Buy, buys), (Side::Sell, sells)] {
                 let mut lent = [lent::row(0); 3];
-                let told = rows(rt, &book, symbol, side, &mut lent);
-                assert!(rt; told == *expected, "after step {at}");
+                let answer = book.orders(symbol, side, &mut lent);
+                // the rows behind the orders stay as they were lent
+                let (told, rest) = lent
+                    .split_at_checked(answer.unwrap_or(0))
+                    .ok_or("more rows than are lent")?;
+                assert!(rt;
+                    rest.iter().all(|row| *row == lent::row(0)),
+                    "a row too many after step {at}"
+                );
+                assert!(rt; answer.map(|_| told) == *expected, "after step {at}");
             }
         }
         Ok(())
