@@ -1,10 +1,14 @@
 // The rows of the two tables, and the row of an answer.
 ghost use Rattle.std.specs.Prelude.{◌≡◌};
-ghost use Rattle.book.specs.Keys.{reference_of, name_of};
+ghost use Rattle.book.specs.Keys.{reference_of, name_of, by_number, by_name};
 ghost use Rattle.book.specs.Questions.{shown};
 ghost use Rattle.book.specs.Stocks.{unheard, with_state};
+ghost use Rattle.std.specs.Cmp.{nat_cmp_total};
+ghost use Rattle.std.specs.Cmp.Lexicographic.{lists_total};
+ghost use Rattle.table.proofs.Laws.{total_lawful};
 
 use codes::{ShortSell, Status, Trading};
+use std::cmp::Ordering;
 use table::Row;
 use wire::{OrderRow, Symbol};
 
@@ -79,8 +83,16 @@ impl Row<BySymbol> for Stock {
 
     ghost key = { name_of };
 
+    ghost order = { by_name };
+
+    ghost lawful = { total_lawful (lists_total nat_cmp_total) };
+
     fn key_of(&self) -> [u8; 6] {
         self.symbol.bytes()
+    }
+
+    fn compare(a: &[u8; 6], b: &[u8; 6]) -> Ordering {
+        a.cmp(b)
     }
 }
 
@@ -89,7 +101,15 @@ impl Row<ByReference> for OrderRow {
 
     ghost key = { reference_of };
 
+    ghost order = { by_number };
+
+    ghost lawful = { total_lawful nat_cmp_total };
+
     fn key_of(&self) -> u32 {
         self.reference
+    }
+
+    fn compare(a: &u32, b: &u32) -> Ordering {
+        a.cmp(b)
     }
 }

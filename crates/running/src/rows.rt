@@ -2,6 +2,7 @@
 ghost use Rattle.std.specs.Prelude.{◌≡◌, ◌≤◌, length};
 ghost use Rattle.wire.specs.Numbers.{most32};
 
+use std::cmp::Ordering;
 use table::Row;
 use wire::Numbered;
 
@@ -60,13 +61,24 @@ impl HeldRow {
 }
 
 impl Row<ByNumber> for HeldRow {
+    ghost use Rattle.book.specs.Keys.{by_number};
     ghost use Rattle.running.specs.Rows.{row_number};
+    ghost use Rattle.std.specs.Cmp.{nat_cmp_total};
+    ghost use Rattle.table.proofs.Laws.{total_lawful};
 
     type Key = u32;
 
     ghost key = { row_number };
 
+    ghost order = { by_number };
+
+    ghost lawful = { total_lawful nat_cmp_total };
+
     fn key_of(&self) -> u32 {
         self.number()
+    }
+
+    fn compare(a: &u32, b: &u32) -> Ordering {
+        a.cmp(b)
     }
 }

@@ -4,7 +4,7 @@ use Rattle.std.specs.Cmp.{IsTotalOrder, alike_right, tied_itself}
 use Rattle.std.specs.Ordering.{is_lt, ordering_reverse}
 use Rattle.std.proofs.lemmas.List.{drop_all, length-drop, take-take}
 use Rattle.std.proofs.lemmas.Bool.{and_from, and_parts, ltb-true}
-use Rattle.table.specs.Rows.{Laws, Stored, pick, found, placed, without, below, onward, above, ordered}
+use Rattle.table.specs.Rows.{Lawful, Laws, Stored, pick, found, placed, without, below, onward, above, ordered}
 use Rattle.table.specs.Tables.{taken}
 use Rattle.table.specs.declared.NotAdded.TheVariants.{Full, Present}
 use Rattle.table.proofs.Seats.{above_at, below_length, is_less, is_none, without_here, without_none}
@@ -373,3 +373,32 @@ module _ {X K : Type 0} (key : X → K) (order : K → K → Ordering) where
           length_without = length_without;
           length_onward = length_onward;
         }
+
+-- an order of the standard library is lawful
+pub total_lawful : {K : Type 0} {R : K → K → Ordering} (o : IsTotalOrder R) → Lawful R
+total_lawful o = record { turn = λ a b. o.antisymm b a; less = o.trans; equal = λ a b c p q. o.congr a b c p ∙ q }
+
+-- and a lawful order is one of the standard library
+module _ {K : Type 0} {R : K → K → Ordering} (l : Lawful R) where
+  turned : (x y : K) (o : Ordering) → R x y ≡ o → R y x ≡ ordering_reverse o
+  turned x y o p = l.turn x y ∙ ap ordering_reverse p
+
+  alike : (x y z : K) → R x y ≡ Equal → R x z ≡ R y z
+  alike x y z e = go (R x z) (R y z) refl refl
+    where
+      go : (r s : Ordering) → R x z ≡ r → R y z ≡ s → r ≡ s
+      go Less Less p q = refl
+      go Less Equal p q = let t = l.equal x y z e q in absurd cc
+      go Less Greater p q = let t = l.less x z y p (turned y z Greater q) in absurd cc
+      go Equal Less p q = let t = l.equal y x z (turned x y Equal e) p in absurd cc
+      go Equal Equal p q = refl
+      go Equal Greater p q = let t = l.equal y x z (turned x y Equal e) p in absurd cc
+      go Greater Less p q =
+          let t = l.less y z x q (turned x z Greater p) in
+          let u = turned x y Equal e in
+          absurd cc
+      go Greater Equal p q = let t = l.equal x y z e q in absurd cc
+      go Greater Greater p q = refl
+
+  pub lawful_total : IsTotalOrder R
+  lawful_total = record { antisymm = λ x y. l.turn y x; trans = l.less; congr = alike }

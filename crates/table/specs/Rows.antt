@@ -2,7 +2,13 @@
 use Rattle.std.specs.Prelude.{◌≡◌, ℕ, suc, ◌+◌, ◌<◌, ◌≤◌, Bool, true, cond, ◌&&◌, List, [], ◌∷◌, length, drop, is_some, Some, None, Option, ◌≢◌, slice_index_or}
 use Rattle.std.specs.declared.cmp.Ordering.TheVariants.{Less, Equal, Greater}
 use Rattle.std.specs.declared.cmp.Ordering.{Ordering}
-use Rattle.std.specs.Ordering.{is_lt}
+use Rattle.std.specs.Ordering.{is_lt, ordering_reverse}
+
+-- the law of a comparison of keys, whose answer is exactly one of less, equal and greater
+pub record Lawful {K : Type 0} (order : K → K → Ordering) : Type 0 where
+  pub turn : (a b : K) → order b a ≡ ordering_reverse (order a b)
+  pub less : (a b c : K) → order a b ≡ Less → order b c ≡ Less → order a c ≡ Less
+  pub equal : (a b c : K) → order a b ≡ Equal → order b c ≡ Equal → order a c ≡ Equal
 
 -- one of three, by what a comparison answered
 abbrev pub pick : {X : Type 0} → Ordering → X → X → X → X

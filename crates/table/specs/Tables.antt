@@ -8,19 +8,19 @@ use Rattle.table.specs.declared.NotAdded.TheVariants.{Full, Present}
 use Rattle.table.specs.declared.Table.{Table}
 
 -- what all slots hold
-abbrev pub all_slots : {X B K : Type 0} {r : _} {o : _} {e : _} {p : _} → Table X B K r o e p → List X
+abbrev pub all_slots : {X B K : Type 0} {r : _} → Table X B K r → List X
 all_slots t = t.slots.now
 
 -- the entries, ascending by key
-abbrev pub entries : {X B K : Type 0} {r : _} {o : _} {e : _} {p : _} → Table X B K r o e p → List X
+abbrev pub entries : {X B K : Type 0} {r : _} → Table X B K r → List X
 entries t = take t.used (all_slots t)
 
 -- how many slots were lent
-abbrev pub room : {X B K : Type 0} {r : _} {o : _} {e : _} {p : _} → Table X B K r o e p → ℕ
+abbrev pub room : {X B K : Type 0} {r : _} → Table X B K r → ℕ
 room t = length (all_slots t)
 
 -- what a call leaves: the entries xs, over as many slots as before
-pub record Leaves {X B K : Type 0} {r : _} {o : _} {e : _} {p : _} (old new : Table X B K r o e p) (xs : List X) : Type 0 where
+pub record Leaves {X B K : Type 0} {r : _} (old new : Table X B K r) (xs : List X) : Type 0 where
   pub entries : entries new ≡ xs
   pub room : room new ≡ room old
 

@@ -3,18 +3,30 @@
 
 ghost use Rattle.std.specs.Prelude.{◌≡◌, ◌+◌, ◌<◌, ◌≤◌, true, false, [], ◌++◌, length, take, drop, is_some, is_ok, if◌then◌else◌, slice_set};
 ghost use Rattle.std.specs.List.{insert};
-ghost use Rattle.table.specs.Rows.{Laws, found, placed, without, below, onward, ordered};
+ghost use Rattle.std.specs.declared.cmp.Ordering.{Ordering as Answer};
+ghost use Rattle.table.specs.Rows.{Lawful, Laws, found, placed, without, below, onward, ordered};
 
-/// A row that a table holds in the order of a key. `By` names the key, so that one row can stand in tables of several orders.
+use std::cmp::Ordering;
+
+/// A row that a table holds in the order of a key. `By` names the order, so that one row can stand in tables of several orders.
+// The order is the row's own and not the key's `Ord`, so that keys of one type can stand in several orders.
 pub trait Row<By>: Copy {
-    type Key: Copy + Ord;
+    type Key: Copy;
 
-    // The key of a row; the order of the rows is that of their keys.
+    // The key of a row, how two keys compare, and that the comparison is lawful.
     ghost key: { Self → Self.Key };
+
+    ghost order: { Self.Key → Self.Key → Answer };
 
     /// The key of this row.
     fn key_of(&self) -> Self::Key
         ensures { result ≡ key self.now };
+
+    /// How two keys compare.
+    fn compare(a: &Self::Key, b: &Self::Key) -> Ordering
+        ensures { result ≡ order a.now b.now };
+
+    ghost lawful: { Lawful order };
 }
 
 /// Why a row was not added.
@@ -34,7 +46,7 @@ pub struct Table<'a, T: Row<By>, By> {
     used: usize,
     by: By,
     pub ghost fits: { used ≤ length slots.now },
-    pub ghost kept: { ordered T.Row.key T.Key.cmp (take used slots.now) ≡ true },
+    pub ghost kept: { ordered T.Row.key T.Row.order (take used slots.now) ≡ true },
 }
 
 // Each contract names the key and its order, since the definitions stand for rows of any kind.
@@ -79,15 +91,16 @@ impl<'a, By, T: Row<By>> Table<'a, T, By> {
 
     // Where the entry of key k stands, or else would stand.
     fn seat(&self, k: &T::Key) -> Result<usize, usize>
-        ensures { Seat T.Row.key T.Key.cmp k.now (entries self.now) result }
+        ensures { Seat T.Row.key T.Row.order k.now (entries self.now) result }
     {
-        self.entries().binary_search_by_key(k, |e| e.key_of())
+        self.entries()
+            .binary_search_by(|e| T::compare(&e.key_of(), k))
     }
 
     // Puts e over the entry at place i.
     fn put(&mut self, i: usize, e: T)
         requires within { i < length (entries self.old) }
-        requires orderly { ordered T.Row.key T.Key.cmp (slice_set (entries self.old) i e) ≡ true }
+        requires orderly { ordered T.Row.key T.Row.order (slice_set (entries self.old) i e) ≡ true }
         ensures { Leaves self.old self.new (slice_set (entries self.old) i e) }
     {
         self.slots[i] = e;
@@ -97,7 +110,7 @@ impl<'a, By, T: Row<By>> Table<'a, T, By> {
     fn insert(&mut self, i: usize, e: T)
         requires within { i ≤ length (entries self.old) }
         requires free { self.old.used < room self.old }
-        requires orderly { ordered T.Row.key T.Key.cmp (insert (entries self.old) i e) ≡ true }
+        requires orderly { ordered T.Row.key T.Row.order (insert (entries self.old) i e) ≡ true }
         ensures { Leaves self.old self.new (insert (entries self.old) i e) }
     {
         let used = self.used;
@@ -121,7 +134,7 @@ impl<'a, By, T: Row<By>> Table<'a, T, By> {
 
     /// The entry of key k.
     pub fn get(&self, k: T::Key) -> Option<T>
-        ensures { result ≡ found T.Row.key T.Key.cmp k (entries self.now) }
+        ensures { result ≡ found T.Row.key T.Row.order k (entries self.now) }
     {
         let i = self.seat(&k).ok()?;
         Some(self.entries()[i])
@@ -129,8 +142,8 @@ impl<'a, By, T: Row<By>> Table<'a, T, By> {
 
     /// Puts e at its place, unless an entry of its key is there or every slot has an entry.
     pub fn add(&mut self, e: T) -> Result<(), NotAdded>
-        ensures answer { result ≡ taken T.Row.key T.Key.cmp (room self.old) e (entries self.old) }
-        ensures left { Leaves self.old self.new (if is_ok result then placed T.Row.key T.Key.cmp e (entries self.old) else entries self.old) }
+        ensures answer { result ≡ taken T.Row.key T.Row.order (room self.old) e (entries self.old) }
+        ensures left { Leaves self.old self.new (if is_ok result then placed T.Row.key T.Row.order e (entries self.old) else entries self.old) }
         ensures refused { is_ok result ≡ false → self.new ≡ self.old }
     {
         match self.seat(&e.key_of()) {
@@ -145,8 +158,8 @@ impl<'a, By, T: Row<By>> Table<'a, T, By> {
 
     /// Puts e over the entry of its key, and returns that; without one, nothing changes.
     pub fn replace(&mut self, e: T) -> Option<T>
-        ensures answer { result ≡ found T.Row.key T.Key.cmp (T.Row.key e) (entries self.old) }
-        ensures left { Leaves self.old self.new (if is_some result then placed T.Row.key T.Key.cmp e (entries self.old) else entries self.old) }
+        ensures answer { result ≡ found T.Row.key T.Row.order (T.Row.key e) (entries self.old) }
+        ensures left { Leaves self.old self.new (if is_some result then placed T.Row.key T.Row.order e (entries self.old) else entries self.old) }
         ensures refused { is_some result ≡ false → self.new ≡ self.old }
     {
         let i = self.seat(&e.key_of()).ok()?;
@@ -157,8 +170,8 @@ impl<'a, By, T: Row<By>> Table<'a, T, By> {
 
     /// Takes out the entry of key k, and returns it; without one, nothing changes.
     pub fn remove(&mut self, k: T::Key) -> Option<T>
-        ensures answer { result ≡ found T.Row.key T.Key.cmp k (entries self.old) }
-        ensures left { Leaves self.old self.new (without T.Row.key T.Key.cmp k (entries self.old)) }
+        ensures answer { result ≡ found T.Row.key T.Row.order k (entries self.old) }
+        ensures left { Leaves self.old self.new (without T.Row.key T.Row.order k (entries self.old)) }
         ensures refused { is_some result ≡ false → self.new ≡ self.old }
     {
         let i = self.seat(&k).ok()?;
@@ -176,16 +189,16 @@ impl<'a, By, T: Row<By>> Table<'a, T, By> {
 
     /// Takes out all entries below key k.
     pub fn remove_below(&mut self, k: T::Key)
-        ensures { Leaves self.old self.new (onward T.Row.key T.Key.cmp k (entries self.old)) }
+        ensures { Leaves self.old self.new (onward T.Row.key T.Row.order k (entries self.old)) }
     {
         let below = self
             .entries()
-            .partition_point(|e| e.key_of().cmp(&k).is_lt());
+            .partition_point(|e| T::compare(&e.key_of(), &k).is_lt());
         self.cut(0, below);
     }
 }
 
 /// The laws of the entries, as one theorem for every kind of row.
 pub fn laws_stand<By, T: Row<By>>()
-    ensures { Laws T.Row.key T.Key.cmp }
+    ensures { Laws T.Row.key T.Row.order }
 {}

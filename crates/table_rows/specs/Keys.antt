@@ -8,6 +8,10 @@ use Rattle.table_rows.specs.declared.Named.{Named}
 abbrev pub number_of : Named → ℕ
 number_of e = e.number
 
+-- the same numbers, the highest first
+abbrev pub downward : ℕ → ℕ → Ordering
+downward a b = nat_cmp b a
+
 abbrev pub name_of : Named → List ℕ
 name_of e = e.name
 

@@ -94,3 +94,17 @@ fn one_row_in_two_orders(rt: HostRuntime) {
     assert!(rt; d.named(*b"B     ").is_none());
     assert!(rt; d.named(*b"A     ").is_some());
 }
+
+#[test]
+fn an_order_of_its_own(rt: HostRuntime) {
+    let mut slots = [row(0); 3];
+    let mut t = Table::new(&mut slots, HighestFirst);
+    assert!(rt; t.add(row(2)).is_ok());
+    assert!(rt; t.add(row(8)).is_ok());
+    assert!(rt; t.add(row(5)).is_ok());
+    assert!(rt; holds(t.entries(), [8, 5, 2]));
+    assert!(rt; t.get(8).is_some());
+    t.remove_below(5);
+    assert!(rt; t.get(8).is_none());
+    assert!(rt; t.count() == 2);
+}

@@ -11,7 +11,7 @@ invariant_of-self g c =
     let n = length-take-le c.args.self.now.used c.args.self.now.slots.now c.args.self.now.fits in
     record {
       fits = omega (arith, n, c.args.self.now.fits, c.requires.forward, c.requires.within);
-      kept = ordered_front g.T.Row.key g.T.Key.Ord.cmp c.args.i c.args.self.now.used c.args.self.now.slots.now (omega (arith, n, c.requires.forward, c.requires.within)) c.args.self.now.kept;
+      kept = ordered_front g.T.Row.key g.T.Row.order c.args.i c.args.self.now.used c.args.self.now.slots.now (omega (arith, n, c.requires.forward, c.requires.within)) c.args.self.now.kept;
     }
 
 pub invariant_of-self-2 : goal.invariant_of-self-2
@@ -20,7 +20,7 @@ invariant_of-self-2 g c =
     let is = closed c.args.self.now.slots.now c.args.self.now.used c.copy_within.new.self c.args.i c.args.j c.requires.forward (omega (arith, n, c.requires.within)) c.args.self.now.fits c.copy_within.ensures.after in
     record {
       fits = omega (arith, n, c.args.self.now.fits, c.requires.forward, c.copy_within.ensures.len);
-      kept = ap (ordered g.T.Row.key g.T.Key.Ord.cmp) is ∙ ordered_cut g.T.Row.key g.T.Key.Ord.cmp c.args.i c.args.j (entries c.args.self.now) c.requires.forward c.args.self.now.kept;
+      kept = ap (ordered g.T.Row.key g.T.Row.order) is ∙ ordered_cut g.T.Row.key g.T.Row.order c.args.i c.args.j (entries c.args.self.now) c.requires.forward c.args.self.now.kept;
     }
 
 pub returns : goal.returns

@@ -10,7 +10,7 @@ invariant_of-self g c =
     let n = length-take-le c.args.self.now.used c.args.self.now.slots.now c.args.self.now.fits in
     record {
       fits = omega (arith, n, c.args.self.now.fits, c.requires.within);
-      kept = ordered_front g.T.Row.key g.T.Key.Ord.cmp c.args.i c.args.self.now.used c.args.self.now.slots.now (omega (arith, n, c.requires.within)) c.args.self.now.kept;
+      kept = ordered_front g.T.Row.key g.T.Row.order c.args.i c.args.self.now.used c.args.self.now.slots.now (omega (arith, n, c.requires.within)) c.args.self.now.kept;
     }
 
 pub invariant_of-self-3 : goal.invariant_of-self-3
@@ -19,7 +19,7 @@ invariant_of-self-3 g c =
     let is = opened c.args.self.now.slots.now c.args.self.now.used c.copy_within.new.self c.args.i c.args.e (omega (arith, n, c.requires.within)) c.requires.free c.copy_within.ensures.after in
     record {
       fits = omega (arith, c.requires.free, c.copy_within.ensures.len, length-set c.copy_within.new.self c.args.i c.args.e);
-      kept = ap (ordered g.T.Row.key g.T.Key.Ord.cmp) is ∙ c.requires.orderly;
+      kept = ap (ordered g.T.Row.key g.T.Row.order) is ∙ c.requires.orderly;
     }
 
 pub returns : goal.returns

@@ -8,7 +8,7 @@ pub invariant_of-self : goal.invariant_of-self
 invariant_of-self g c =
     record {
       fits = omega (arith, c.args.self.now.fits, length-set c.args.self.now.slots.now c.args.i c.args.e);
-      kept = ap (ordered g.T.Row.key g.T.Key.Ord.cmp) (take_set_in c.args.self.now.used c.args.self.now.slots.now c.args.i c.args.e) ∙ c.requires.orderly;
+      kept = ap (ordered g.T.Row.key g.T.Row.order) (take_set_in c.args.self.now.used c.args.self.now.slots.now c.args.i c.args.e) ∙ c.requires.orderly;
     }
 
 pub returns : goal.returns
