@@ -46,8 +46,12 @@ impl Lines<'_> {
         let mut book = Book::new(lent.stocks.as_mut_slice(), lent.orders.as_mut_slice());
         let follower = Follower::new(&mut book, lent.held.as_mut_slice());
         let mut calls = Calls::new(self.rt, follower, lent.rows.as_mut_slice());
-        for line in script {
-            if let Err(fault) = self.with_follower(line?.as_slice(), &mut calls) {
+        // no proof knows that the input ends
+        for _ in 0..u64::MAX {
+            let Some(line) = script.next_line()? else {
+                break;
+            };
+            if let Err(fault) = self.with_follower(line, &mut calls) {
                 fault.print(self.rt)?;
             }
         }
@@ -56,8 +60,11 @@ impl Lines<'_> {
 
     // The lines up to the one that lends the slots, and what that one says.
     fn before_slots(&mut self, script: &mut Script) -> io::Result<Option<Slots>> {
-        for line in script.by_ref() {
-            match self.without_follower(line?.as_slice()) {
+        for _ in 0..u64::MAX {
+            let Some(line) = script.next_line()? else {
+                break;
+            };
+            match self.without_follower(line) {
                 Ok(None) => {}
                 Ok(slots) => return Ok(slots),
                 Err(fault) => fault.print(self.rt)?,

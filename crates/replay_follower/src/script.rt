@@ -1,43 +1,32 @@
 // The lines of a script.
-ghost use Rattle.std.specs.Iterator.{at_most};
-
 use scripts::Fault;
-use std::alloc::Global;
 use std::io;
 use std::io::{BufRead, BufReader, Stdin};
 use std::str::from_utf8;
 
-// The script on standard input, line by line, each with what ends it.
+// The script on standard input, and the line that was read last, with what ends it.
+// One buffer for all lines: an iterator would hand each out in one of its own, at a cost that short lines feel.
 #[derive(Drop)]
 pub(crate) struct Script {
-    heap: Global,
     input: BufReader<Stdin>,
-    // how many lines are read at most: no proof knows that the input ends
-    left: u64,
+    line: Vec<u8>,
 }
 
 impl Script {
     pub(crate) fn new(rt: &HostRuntime) -> io::Result<Script> {
         Ok(Script {
-            heap: rt.alloc(),
             input: BufReader::new(rt.alloc(), rt.stdin())?,
-            left: u64::MAX,
+            line: Vec::new(rt.alloc()),
         })
     }
-}
 
-impl Iterator for Script {
-    type Item = io::Result<Vec<u8>>;
-
-    ghost remaining = { λ s. at_most s.left };
-
-    fn next(&mut self) -> Option<io::Result<Vec<u8>>> {
-        self.left = self.left.checked_sub(1)?;
-        let mut line = Vec::new(self.heap);
-        match self.input.read_until(b'\n', &mut line) {
-            Ok(0) => None,
-            read => Some(read.map(|_| line)),
+    // The next line, or none at the end of the script.
+    pub(crate) fn next_line(&mut self) -> io::Result<Option<&[u8]>> {
+        self.line.clear();
+        if self.input.read_until(b'\n', &mut self.line)? == 0 {
+            return Ok(None);
         }
+        Ok(Some(self.line.as_slice()))
     }
 }
 

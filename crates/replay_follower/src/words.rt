@@ -62,13 +62,12 @@ pub(crate) fn slots(words: &str) -> Option<Slots> {
 
 // One source or more, each `session BYTES` or `file BYTES`.
 pub(crate) fn sources(heap: Global, words: &str) -> Result<Vec<Stored>, Fault> {
-    let words: Vec<&str> = words.split(' ').collect(heap)?;
     let mut stored = Vec::new(heap);
-    for named in words.as_slice().chunks(2) {
-        let [kind, word] = named else {
-            return Err(Fault::BadLine);
-        };
+    // word by word, so that no word behind a bad one costs memory
+    let mut words = words.split(' ');
+    while let Some(kind) = words.next() {
         let kind = kind.parse::<Kind>()?;
+        let word = words.next().ok_or(Fault::BadLine)?;
         let bytes = bytes(heap, word)?.ok_or(Fault::BadLine)?;
         stored.push(Stored { kind, bytes })?;
     }
