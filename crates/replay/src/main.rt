@@ -32,7 +32,11 @@ fn run(rt: &HostRuntime, line: &str, client: &mut Client) -> Result<(), Fault> {
     match line.split_once(' ') {
         Some(("packet", digits)) => with_bytes(rt, digits, show::packet),
         Some(("snapshot", digits)) => with_bytes(rt, digits, show::snapshot),
-        Some(("request", digits)) => with_bytes(rt, digits, scripts::request),
+        Some(("request", digits)) => with_bytes(
+            rt,
+            digits,
+            |rt, bytes| scripts::request(rt, bytes),
+        ),
         _ => Err(Fault::BadLine),
     }
 }

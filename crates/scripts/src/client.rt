@@ -1,7 +1,10 @@
 // The requests of a client, and the session that it has open.
-ghost use Rattle.std.specs.Prelude.{◌≡◌, true, false, cond, ◌||◌, codes, Some, None, IfOk, IsErrOf, OnOk};
+ghost use Rattle.std.specs.Prelude.{◌≡◌, true, false, cond, ◌||◌, codes, Some, None, Err, is_ok, IfOk, IsErrOf, OnOk};
 ghost use Rattle.std.specs.Option.{option_copied};
 ghost use Rattle.scripts.specs.Clients.{is_open, NeedsSession};
+ghost use Rattle.request.specs.Requests.{request_of};
+ghost use Rattle.codes.specs.declared.refusal.Refusal.{Refusal as Why};
+ghost use Rattle.scripts.specs.declared.fault.Fault.TheVariants.{Refused};
 ghost use Rattle.scripts.specs.Lines.{begins, has_words, handed_back, open_behind};
 
 use crate::fault::Fault;
@@ -102,7 +105,9 @@ impl Client {
     }
 
     // The end of the script: a session that is still open is ended as lost.
-    pub fn end(self, rt: &impl Print) -> io::Result<()> {
+    pub fn end(self, rt: &impl Print) -> io::Result<()>
+        ensures { is_open self ≡ false → is_ok result ≡ true }
+    {
         let Client { session } = self;
         match session {
             None => Ok(()),
@@ -115,7 +120,9 @@ impl Client {
 }
 
 // `request BYTES` says what the bytes are as a request.
-pub fn request(rt: &(impl Print + AllocGlobal), bytes: &[u8]) -> Result<(), Fault> {
+pub fn request(rt: &(impl Print + AllocGlobal), bytes: &[u8]) -> Result<(), Fault>
+    ensures { (why : Why) → request_of bytes.now ≡ Err why → IsErrOf result (Refused why) }
+{
     match Request::read(bytes)? {
         Request::Logout => println!(rt; "logout")?,
         Request::Heartbeat => println!(rt; "heartbeat")?,
@@ -141,10 +148,13 @@ fn asked(heap: Global, words: &str) -> Result<Login, Fault> {
     let (user, rest) = words.split_once(' ').ok_or(Fault::BadLine)?;
     let (password, rest) = rest.split_once(' ').ok_or(Fault::BadLine)?;
     let (session, number) = rest.split_once(' ').ok_or(Fault::BadLine)?;
+    // in their order, so that no word behind a bad one costs memory
+    let user = words::exactly::<6>(heap, user)?.ok_or(Fault::BadLine)?;
+    let password = words::exactly::<10>(heap, password)?.ok_or(Fault::BadLine)?;
     let session = words::exactly::<10>(heap, session)?.ok_or(Fault::BadLine)?;
     Ok(Login {
-        user: words::exactly::<6>(heap, user)?.ok_or(Fault::BadLine)?,
-        password: words::exactly::<10>(heap, password)?.ok_or(Fault::BadLine)?,
+        user,
+        password,
         session: Session::read(&session).ok_or(Fault::BadLine)?,
         number: words::field(number).ok_or(Fault::BadLine)?,
     })

@@ -1,5 +1,6 @@
 // Why a line of a script fails.
-ghost use Rattle.std.specs.Prelude.{◌≡◌};
+ghost use Rattle.std.specs.Prelude.{◌≡◌, IsErrOf};
+ghost use Rattle.std.specs.declared.io.Error.{Error};
 ghost use Rattle.scripts.specs.declared.fault.Fault.TheVariants.{Refused, Io};
 ghost use Rattle.scripts.specs.Faults.{IsOutOfMemory};
 
@@ -18,7 +19,9 @@ pub enum Fault {
 
 impl Fault {
     // A bad line and a refusal are answers, which are printed; the rest is the program's error.
-    pub fn print(self, rt: &impl Print) -> io::Result<()> {
+    pub fn print(self, rt: &impl Print) -> io::Result<()>
+        ensures { (error : Error) → self ≡ Io error → IsErrOf result error }
+    {
         match self {
             Fault::BadLine => println!(rt; "bad line"),
             Fault::Refused(why) => println!(rt; "refused {why}"),
