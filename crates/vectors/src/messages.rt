@@ -305,4 +305,31 @@ mod tests {
             assert!(rt; in_the_feed(&added(reference, shares, price)) == expected.map(|()| said));
         }
     }
+
+    #[test]
+    fn codes_have_their_letters(rt: HostRuntime) {
+        for (cause, letter) in [
+            (Cause::Length, 'a'),
+            (Cause::Field, 'b'),
+            (Cause::LiveReference, 'c'),
+            (Cause::NoStock, 'd'),
+            (Cause::NoOrder, 'e'),
+            (Cause::TooManyShares, 'f'),
+            (Cause::TableFull, 'g'),
+            (Cause::InSnapshot, 'h'),
+        ] {
+            assert!(rt; char::from(cause) == letter);
+        }
+        for (code, letter) in [
+            (EventCode::StartOfMessages, 'O'),
+            (EventCode::StartOfTrading, 'S'),
+            (EventCode::EndOfSystem, 'E'),
+            (EventCode::EndOfMessages, 'C'),
+        ] {
+            assert!(rt; char::from(code) == letter);
+        }
+        assert!(rt; char::from(Trading::Halted) == 'H' && char::from(Trading::Open) == 'T');
+        assert!(rt; char::from(ShortSell::Active) == 'A' && char::from(ShortSell::Inactive) == 'D');
+        assert!(rt; char::from(Side::Buy) == 'B' && char::from(Side::Sell) == 'S');
+    }
 }
